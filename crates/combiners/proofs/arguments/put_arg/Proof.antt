@@ -1,0 +1,22 @@
+use Rattle.text.proofs.Laws.{texts, _⨾_, keeps}
+use native.Mathlib.Omega.{arith}
+use borrow.Author.Needs.{needs}
+use Rattle.combiners.specs.Arguments.{argText}
+use Rattle.combiners.proofs.arguments.put_arg.Statement.{statement}
+use Rattle.combiners.proofs.arguments.put_arg.Tie as tie
+
+pub put-arg-spec : {M : Type 1} → statement M
+unfolding argText
+put-arg-spec =
+    tie.close
+    (tie.spec
+    (λ c. search needs)
+    (λ c κs. search needs)
+    (λ c κs. search needs)
+    (λ c. search needs)
+    (λ c κs. search needs)
+    (λ c κs. search needs)
+    (λ c. search needs)
+    (λ c. search (texts, c .before .before .before .before .before .before .before .before .before .before .before .before .before .before .if1 .taken, c .before .before .before .before .before .before .before .before .before .before .before .put .ensures ⨾ c .before .before .before .before .before .before .before .put-replicated .ensures ⨾ c .before .before .put2 .ensures))
+    (λ c. search needs)
+    (λ c. search (texts, c .before .before .before .before .if1 .left, c .before .before .put-replicated2 .ensures)))

@@ -1,0 +1,17 @@
+use Rattle.text.proofs.Laws.{texts, _⨾_, keeps}
+use native.Mathlib.Omega.{arith}
+use borrow.Author.Needs.{needs}
+use Rattle.combiners.proofs.combine.put_two.Statement.{statement}
+use Rattle.combiners.proofs.combine.put_two.Tie as tie
+
+pub put-two-spec : {M : Type 1} → statement M
+put-two-spec =
+    tie.close
+    (tie.spec
+    (λ c κs. search needs)
+    (λ c κs. search needs)
+    (λ c κs. search needs)
+    (λ c κs. search needs)
+    (λ c κs. search needs)
+    (λ c. search needs)
+    (λ c. c .before .before .before .before .before .before .before .before .before .before .before .before .before .before .before .before .before .before .put .ensures ⨾ c .before .before .before .before .before .before .before .before .before .before .before .before .before .before .put-arg2 .ensures ⨾ c .before .before .before .before .before .before .before .before .before .before .put2 .ensures ⨾ c .before .before .before .before .before .before .put-arg4 .ensures ⨾ c .before .before .put3 .ensures))

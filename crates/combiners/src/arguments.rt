@@ -1,0 +1,97 @@
+//! Arguments: the source and the modifiers that a byte names, and their text.
+use crate::Arg;
+use crate::Source;
+use text::put;
+use text::put_digit;
+use text::put_when;
+ghost use Prim.Native.Nat.{_<_};
+ghost use mathlib.Core.Path.{_≡_};
+ghost use Rattle.text.specs.Buffer.{Wrote};
+ghost use Rattle.combiners.specs.Arguments.{sourceOf, argOf, texelName, constantRow, sourceText, replicated, argText};
+
+pub fn source_of(selector: u8, textured: bool) -> Source
+    ensures { λ r. ⌜ r ≡ sourceOf textured selector ⌝ }
+{
+    match selector {
+        0 => Source::Diffuse,
+        1 => Source::Current,
+        2 => {
+            if textured {
+                Source::Texture
+            } else {
+                Source::White
+            }
+        }
+        3 => Source::Factor,
+        4 => Source::Specular,
+        5 => Source::Temp,
+        6 => Source::Constant,
+        _ => Source::White,
+    }
+}
+
+pub fn arg_of(byte: u8, textured: bool) -> Arg
+    ensures { λ r. ⌜ r ≡ argOf textured byte ⌝ }
+{
+    let s = source_of(byte % 16, textured);
+    Arg {
+        source: s,
+        replicate: byte / 32 % 2 == 1,
+        complement: byte / 16 % 2 == 1,
+    }
+}
+
+pub fn put_texel(out: &mut [u8], at: usize, stage: u8) -> usize
+    requires { ⌜ stage < 8 ⌝ }
+    ensures { λ r. ⌜ Wrote (now (out .entry)) at (now (out .exit)) r (texelName stage) ⌝ }
+{
+    let a = put(out, at, b"t");
+    put_digit(out, a, stage)
+}
+
+fn put_constant(out: &mut [u8], at: usize, stage: u8) -> usize
+    requires { ⌜ stage < 8 ⌝ }
+    ensures { λ r. ⌜ Wrote (now (out .entry)) at (now (out .exit)) r (constantRow stage) ⌝ }
+{
+    let a = put(out, at, b"ps_c[");
+    let b = put_digit(out, a, stage + 1);
+    put(out, b, b"]")
+}
+
+fn put_source(out: &mut [u8], at: usize, s: Source, stage: u8) -> usize
+    requires { ⌜ stage < 8 ⌝ }
+    ensures { λ r. ⌜ Wrote (now (out .entry)) at (now (out .exit)) r (sourceText stage s) ⌝ }
+{
+    match s {
+        Source::Diffuse => put(out, at, b"in.color0"),
+        Source::Current => put(out, at, b"current"),
+        Source::Texture => put_texel(out, at, stage),
+        Source::Factor => put(out, at, b"ps_c[0]"),
+        Source::Specular => put(out, at, b"in.color1"),
+        Source::Temp => put(out, at, b"temp"),
+        Source::Constant => put_constant(out, at, stage),
+        Source::White => put(out, at, b"float4(1.0)"),
+    }
+}
+
+fn put_replicated(out: &mut [u8], at: usize, x: Arg, stage: u8) -> usize
+    requires { ⌜ stage < 8 ⌝ }
+    ensures { λ r. ⌜ Wrote (now (out .entry)) at (now (out .exit)) r (replicated stage x) ⌝ }
+{
+    let s = x.source;
+    let a = put_source(out, at, s, stage);
+    put_when(out, a, x.replicate, b".aaaa")
+}
+
+pub fn put_arg(out: &mut [u8], at: usize, x: Arg, stage: u8) -> usize
+    requires { ⌜ stage < 8 ⌝ }
+    ensures { λ r. ⌜ Wrote (now (out .entry)) at (now (out .exit)) r (argText stage x) ⌝ }
+{
+    if x.complement {
+        let a = put(out, at, b"(1.0 - ");
+        let b = put_replicated(out, a, x, stage);
+        put(out, b, b")")
+    } else {
+        put_replicated(out, at, x, stage)
+    }
+}

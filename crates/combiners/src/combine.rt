@@ -1,0 +1,382 @@
+//! Combiners: the operation that a code names, and its text.
+use crate::Arg;
+use crate::Expression;
+use crate::Op;
+use crate::arguments::put_arg;
+use crate::arguments::put_texel;
+use text::put;
+ghost use Prim.Native.Nat.{_<_};
+ghost use mathlib.Core.Path.{_≡_};
+ghost use mathlib.Core.Bool.{true};
+ghost use Rattle.text.specs.Text.{raw, _⊕_};
+ghost use Rattle.text.specs.Buffer.{Wrote};
+ghost use Rattle.combiners.specs.Arguments.{argText};
+ghost use Rattle.combiners.specs.Combiners.{opOf, opText, expressionText};
+
+// The operation of a code: the codes without a text fall to argument 1.
+pub fn op_of(code: u8) -> Op
+    ensures { λ r. ⌜ r ≡ opOf code ⌝ }
+{
+    match code {
+        2 => Op::SelectArg1,
+        3 => Op::SelectArg2,
+        4 => Op::Modulate,
+        5 => Op::Modulate2X,
+        6 => Op::Modulate4X,
+        7 => Op::Add,
+        8 => Op::AddSigned,
+        9 => Op::AddSigned2X,
+        10 => Op::Subtract,
+        11 => Op::AddSmooth,
+        12 => Op::BlendDiffuseAlpha,
+        13 => Op::BlendTextureAlpha,
+        14 => Op::BlendFactorAlpha,
+        15 => Op::BlendTextureAlphaPM,
+        16 => Op::BlendCurrentAlpha,
+        18 => Op::ModulateAlphaAddColor,
+        19 => Op::ModulateColorAddAlpha,
+        20 => Op::ModulateInvAlphaAddColor,
+        21 => Op::ModulateInvColorAddAlpha,
+        24 => Op::DotProduct3,
+        0..=1 | 17 | 22..=23 | 25..=255 => Op::Other,
+    }
+}
+
+// Two arguments, with bytes before, between and behind.
+fn put_two(
+    out: &mut [u8],
+    at: usize,
+    pre: &[u8],
+    x: Arg,
+    mid: &[u8],
+    y: Arg,
+    post: &[u8],
+    stage: u8,
+) -> usize
+    requires { ⌜ stage < 8 ⌝ }
+    ensures { λ r. ⌜ Wrote (now (out .entry)) at (now (out .exit)) r
+        (raw (now (pre .entry)) ⊕ argText stage x ⊕ raw (now (mid .entry)) ⊕ argText stage y ⊕ raw (now (post .entry))) ⌝ }
+{
+    let a = put(out, at, pre);
+    let b = put_arg(out, a, x, stage);
+    let c = put(out, b, mid);
+    let d = put_arg(out, c, y, stage);
+    put(out, d, post)
+}
+
+// Three arguments, with bytes before, between and behind.
+fn put_three(
+    out: &mut [u8],
+    at: usize,
+    pre: &[u8],
+    x: Arg,
+    mid: &[u8],
+    y: Arg,
+    mid2: &[u8],
+    z: Arg,
+    post: &[u8],
+    stage: u8,
+) -> usize
+    requires { ⌜ stage < 8 ⌝ }
+    ensures { λ r. ⌜ Wrote (now (out .entry)) at (now (out .exit)) r
+        (raw (now (pre .entry)) ⊕ argText stage x ⊕ raw (now (mid .entry)) ⊕ argText stage y ⊕ raw (now (mid2 .entry)) ⊕ argText stage z
+        ⊕ raw (now (post .entry))) ⌝ }
+{
+    let a = put(out, at, pre);
+    let b = put_arg(out, a, x, stage);
+    put_two(out, b, mid, y, mid2, z, post, stage)
+}
+
+fn put_modulate(out: &mut [u8], at: usize, x: Arg, y: Arg, stage: u8) -> usize
+    requires { ⌜ stage < 8 ⌝ }
+    ensures { λ r. ⌜ Wrote (now (out .entry)) at (now (out .exit)) r (opText stage true Op.Modulate (argText stage x) (argText stage y)) ⌝ }
+{
+    put_two(out, at, b"(", x, b" * ", y, b")", stage)
+}
+
+fn put_modulate2x(out: &mut [u8], at: usize, x: Arg, y: Arg, stage: u8) -> usize
+    requires { ⌜ stage < 8 ⌝ }
+    ensures { λ r. ⌜ Wrote (now (out .entry)) at (now (out .exit)) r (opText stage true Op.Modulate2X (argText stage x) (argText stage y)) ⌝ }
+{
+    put_two(out, at, b"saturate(2.0 * ", x, b" * ", y, b")", stage)
+}
+
+fn put_modulate4x(out: &mut [u8], at: usize, x: Arg, y: Arg, stage: u8) -> usize
+    requires { ⌜ stage < 8 ⌝ }
+    ensures { λ r. ⌜ Wrote (now (out .entry)) at (now (out .exit)) r (opText stage true Op.Modulate4X (argText stage x) (argText stage y)) ⌝ }
+{
+    put_two(out, at, b"saturate(4.0 * ", x, b" * ", y, b")", stage)
+}
+
+fn put_add(out: &mut [u8], at: usize, x: Arg, y: Arg, stage: u8) -> usize
+    requires { ⌜ stage < 8 ⌝ }
+    ensures { λ r. ⌜ Wrote (now (out .entry)) at (now (out .exit)) r (opText stage true Op.Add (argText stage x) (argText stage y)) ⌝ }
+{
+    put_two(out, at, b"saturate(", x, b" + ", y, b")", stage)
+}
+
+fn put_add_signed(out: &mut [u8], at: usize, x: Arg, y: Arg, stage: u8) -> usize
+    requires { ⌜ stage < 8 ⌝ }
+    ensures { λ r. ⌜ Wrote (now (out .entry)) at (now (out .exit)) r (opText stage true Op.AddSigned (argText stage x) (argText stage y)) ⌝ }
+{
+    put_two(out, at, b"saturate(", x, b" + ", y, b" - 0.5)", stage)
+}
+
+fn put_add_signed2x(out: &mut [u8], at: usize, x: Arg, y: Arg, stage: u8) -> usize
+    requires { ⌜ stage < 8 ⌝ }
+    ensures { λ r. ⌜ Wrote (now (out .entry)) at (now (out .exit)) r (opText stage true Op.AddSigned2X (argText stage x) (argText stage y)) ⌝ }
+{
+    put_two(
+        out,
+        at,
+        b"saturate(2.0 * (",
+        x,
+        b" + ",
+        y,
+        b" - 0.5))",
+        stage,
+    )
+}
+
+fn put_subtract(out: &mut [u8], at: usize, x: Arg, y: Arg, stage: u8) -> usize
+    requires { ⌜ stage < 8 ⌝ }
+    ensures { λ r. ⌜ Wrote (now (out .entry)) at (now (out .exit)) r (opText stage true Op.Subtract (argText stage x) (argText stage y)) ⌝ }
+{
+    put_two(out, at, b"saturate(", x, b" - ", y, b")", stage)
+}
+
+fn put_add_smooth(out: &mut [u8], at: usize, x: Arg, y: Arg, stage: u8) -> usize
+    requires { ⌜ stage < 8 ⌝ }
+    ensures { λ r. ⌜ Wrote (now (out .entry)) at (now (out .exit)) r (opText stage true Op.AddSmooth (argText stage x) (argText stage y)) ⌝ }
+{
+    put_three(
+        out,
+        at,
+        b"saturate(",
+        x,
+        b" + ",
+        y,
+        b" * (1.0 - ",
+        x,
+        b"))",
+        stage,
+    )
+}
+
+fn put_blend_diffuse_alpha(out: &mut [u8], at: usize, x: Arg, y: Arg, stage: u8) -> usize
+    requires { ⌜ stage < 8 ⌝ }
+    ensures { λ r. ⌜ Wrote (now (out .entry)) at (now (out .exit)) r (opText stage true Op.BlendDiffuseAlpha (argText stage x) (argText stage y)) ⌝ }
+{
+    put_two(
+        out,
+        at,
+        b"(",
+        x,
+        b" * in.color0.a + ",
+        y,
+        b" * (1.0 - in.color0.a))",
+        stage,
+    )
+}
+
+fn put_blend_factor_alpha(out: &mut [u8], at: usize, x: Arg, y: Arg, stage: u8) -> usize
+    requires { ⌜ stage < 8 ⌝ }
+    ensures { λ r. ⌜ Wrote (now (out .entry)) at (now (out .exit)) r (opText stage true Op.BlendFactorAlpha (argText stage x) (argText stage y)) ⌝ }
+{
+    put_two(
+        out,
+        at,
+        b"(",
+        x,
+        b" * ps_c[0].a + ",
+        y,
+        b" * (1.0 - ps_c[0].a))",
+        stage,
+    )
+}
+
+fn put_blend_current_alpha(out: &mut [u8], at: usize, x: Arg, y: Arg, stage: u8) -> usize
+    requires { ⌜ stage < 8 ⌝ }
+    ensures { λ r. ⌜ Wrote (now (out .entry)) at (now (out .exit)) r (opText stage true Op.BlendCurrentAlpha (argText stage x) (argText stage y)) ⌝ }
+{
+    put_two(
+        out,
+        at,
+        b"(",
+        x,
+        b" * current.a + ",
+        y,
+        b" * (1.0 - current.a))",
+        stage,
+    )
+}
+
+fn put_modulate_alpha_add_color(out: &mut [u8], at: usize, x: Arg, y: Arg, stage: u8) -> usize
+    requires { ⌜ stage < 8 ⌝ }
+    ensures { λ r. ⌜ Wrote (now (out .entry)) at (now (out .exit)) r (opText stage true Op.ModulateAlphaAddColor (argText stage x) (argText stage y)) ⌝ }
+{
+    put_three(
+        out,
+        at,
+        b"saturate(",
+        x,
+        b" + (",
+        x,
+        b").a * ",
+        y,
+        b")",
+        stage,
+    )
+}
+
+fn put_modulate_color_add_alpha(out: &mut [u8], at: usize, x: Arg, y: Arg, stage: u8) -> usize
+    requires { ⌜ stage < 8 ⌝ }
+    ensures { λ r. ⌜ Wrote (now (out .entry)) at (now (out .exit)) r (opText stage true Op.ModulateColorAddAlpha (argText stage x) (argText stage y)) ⌝ }
+{
+    put_three(
+        out,
+        at,
+        b"saturate(",
+        x,
+        b" * ",
+        y,
+        b" + (",
+        x,
+        b").a)",
+        stage,
+    )
+}
+
+fn put_modulate_inv_alpha_add_color(out: &mut [u8], at: usize, x: Arg, y: Arg, stage: u8) -> usize
+    requires { ⌜ stage < 8 ⌝ }
+    ensures { λ r. ⌜ Wrote (now (out .entry)) at (now (out .exit)) r (opText stage true Op.ModulateInvAlphaAddColor (argText stage x) (argText stage y)) ⌝ }
+{
+    put_three(
+        out,
+        at,
+        b"saturate(",
+        x,
+        b" + (1.0 - (",
+        x,
+        b").a) * ",
+        y,
+        b")",
+        stage,
+    )
+}
+
+fn put_modulate_inv_color_add_alpha(out: &mut [u8], at: usize, x: Arg, y: Arg, stage: u8) -> usize
+    requires { ⌜ stage < 8 ⌝ }
+    ensures { λ r. ⌜ Wrote (now (out .entry)) at (now (out .exit)) r (opText stage true Op.ModulateInvColorAddAlpha (argText stage x) (argText stage y)) ⌝ }
+{
+    put_three(
+        out,
+        at,
+        b"saturate((1.0 - ",
+        x,
+        b") * ",
+        y,
+        b" + (",
+        x,
+        b").a)",
+        stage,
+    )
+}
+
+fn put_dot_product3(out: &mut [u8], at: usize, x: Arg, y: Arg, stage: u8) -> usize
+    requires { ⌜ stage < 8 ⌝ }
+    ensures { λ r. ⌜ Wrote (now (out .entry)) at (now (out .exit)) r (opText stage true Op.DotProduct3 (argText stage x) (argText stage y)) ⌝ }
+{
+    put_two(
+        out,
+        at,
+        b"float4(saturate(4.0 * dot((",
+        x,
+        b").rgb - 0.5, (",
+        y,
+        b").rgb - 0.5)))",
+        stage,
+    )
+}
+
+fn put_blend_texture_alpha(
+    out: &mut [u8],
+    at: usize,
+    x: Arg,
+    y: Arg,
+    stage: u8,
+    textured: bool,
+) -> usize
+    requires { ⌜ stage < 8 ⌝ }
+    ensures { λ r. ⌜ Wrote (now (out .entry)) at (now (out .exit)) r (opText stage textured Op.BlendTextureAlpha (argText stage x) (argText stage y)) ⌝ }
+{
+    if textured {
+        let a = put(out, at, b"(");
+        let b = put_arg(out, a, x, stage);
+        let c = put(out, b, b" * ");
+        let d = put_texel(out, c, stage);
+        let e = put(out, d, b".a + ");
+        let f = put_arg(out, e, y, stage);
+        let g = put(out, f, b" * (1.0 - ");
+        let h = put_texel(out, g, stage);
+        put(out, h, b".a))")
+    } else {
+        put_arg(out, at, y, stage)
+    }
+}
+
+fn put_blend_texture_alpha_pm(
+    out: &mut [u8],
+    at: usize,
+    x: Arg,
+    y: Arg,
+    stage: u8,
+    textured: bool,
+) -> usize
+    requires { ⌜ stage < 8 ⌝ }
+    ensures { λ r. ⌜ Wrote (now (out .entry)) at (now (out .exit)) r (opText stage textured Op.BlendTextureAlphaPM (argText stage x) (argText stage y)) ⌝ }
+{
+    if textured {
+        let a = put(out, at, b"saturate(");
+        let b = put_arg(out, a, x, stage);
+        let c = put(out, b, b" + ");
+        let d = put_arg(out, c, y, stage);
+        let e = put(out, d, b" * (1.0 - ");
+        let f = put_texel(out, e, stage);
+        put(out, f, b".a))")
+    } else {
+        put_two(out, at, b"saturate(", x, b" + ", y, b")", stage)
+    }
+}
+
+pub fn put_expression(out: &mut [u8], at: usize, e: Expression, stage: u8, textured: bool) -> usize
+    requires { ⌜ stage < 8 ⌝ }
+    ensures { λ r. ⌜ Wrote (now (out .entry)) at (now (out .exit)) r (expressionText stage textured e) ⌝ }
+{
+    let x = e.arg1;
+    let y = e.arg2;
+    let op = e.op;
+    match op {
+        Op::SelectArg1 => put_arg(out, at, x, stage),
+        Op::SelectArg2 => put_arg(out, at, y, stage),
+        Op::Modulate => put_modulate(out, at, x, y, stage),
+        Op::Modulate2X => put_modulate2x(out, at, x, y, stage),
+        Op::Modulate4X => put_modulate4x(out, at, x, y, stage),
+        Op::Add => put_add(out, at, x, y, stage),
+        Op::AddSigned => put_add_signed(out, at, x, y, stage),
+        Op::AddSigned2X => put_add_signed2x(out, at, x, y, stage),
+        Op::Subtract => put_subtract(out, at, x, y, stage),
+        Op::AddSmooth => put_add_smooth(out, at, x, y, stage),
+        Op::BlendDiffuseAlpha => put_blend_diffuse_alpha(out, at, x, y, stage),
+        Op::BlendTextureAlpha => put_blend_texture_alpha(out, at, x, y, stage, textured),
+        Op::BlendFactorAlpha => put_blend_factor_alpha(out, at, x, y, stage),
+        Op::BlendTextureAlphaPM => put_blend_texture_alpha_pm(out, at, x, y, stage, textured),
+        Op::BlendCurrentAlpha => put_blend_current_alpha(out, at, x, y, stage),
+        Op::ModulateAlphaAddColor => put_modulate_alpha_add_color(out, at, x, y, stage),
+        Op::ModulateColorAddAlpha => put_modulate_color_add_alpha(out, at, x, y, stage),
+        Op::ModulateInvAlphaAddColor => put_modulate_inv_alpha_add_color(out, at, x, y, stage),
+        Op::ModulateInvColorAddAlpha => put_modulate_inv_color_add_alpha(out, at, x, y, stage),
+        Op::DotProduct3 => put_dot_product3(out, at, x, y, stage),
+        Op::Other => put_arg(out, at, x, stage),
+    }
+}

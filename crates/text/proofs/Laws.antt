@@ -1,0 +1,79 @@
+-- The laws of writing: one text behind another is the two joined; a text that fits is written whole; which of two texts; a text's length.
+use Prim.Native.Nat.{ℕ, suc, _+_, _-_, _^_, _<_, _≤_, min}
+use mathlib.Core.Bool.{Bool, true, false, cond}
+use mathlib.Core.Path.{_≡_, refl, ap, sym, _∙_}
+use mathlib.Core.List.{List, [], _∷_, _++_}
+use native.Mathlib.Omega.{arith, min-cases}
+use native.Mathlib.Nat.{add-zero, zero-add}
+use borrow.Author.Tests.{ne-eqb, le-leb, lt-leb, le-ltb, lt-ltb}
+use lib.Dec.{eqb}
+use lib.ListN.{length, drop, set, length-set, length-append}
+use lib.Seq.{sets, sets-eq, length-sets, set-out}
+use Rattle.text.specs.Text.{Text, raw, _⊕_, pick, flat, size}
+use Rattle.text.specs.Buffer.{Wrote}
+
+pub flat-length : (t : Text) → length (flat t) ≡ size t
+flat-length (raw x) = refl
+flat-length (s ⊕ t) = simp length-append (omega (arith, flat-length s, flat-length t))
+flat-length (pick true s t) = flat-length s
+flat-length (pick false s t) = flat-length t
+
+-- past the end nothing is written
+pub sets-out : (t l : List ℕ) (i : ℕ) → length l ≤ i → sets l i t ≡ l
+sets-out [] l i h = refl
+sets-out (x ∷ t) l i h = rw (set-out l i x h) (sets-out t l (suc i) (omega arith))
+
+-- one text behind another is the two joined
+pub sets-append : (s t l : List ℕ) (i : ℕ) → sets l i (s ++ t) ≡ sets (sets l i s) (i + length s) t
+sets-append [] t l i = rw add-zero
+sets-append (x ∷ s) t l i = sets-append s t (set l i x) (suc i) ∙ ap (λ (k : ℕ). sets (sets (set l i x) (suc i) s) k t) (omega arith)
+
+-- where the place would be past the largest usize, the buffer has ended long before
+seam : (s t l : List ℕ) (i : ℕ) → length l < 2 ^ 63 → sets (sets l i s) (min (2 ^ 64 - 1) (i + length s)) t ≡ sets l i (s ++ t)
+seam s t l i h =
+    min-cases (2 ^ 64 - 1) (i + length s) _
+    (λ k e. sets-out t (sets l i s) _ (simp length-sets (omega arith))
+    ∙ sym (sets-out t (sets l i s) (i + length s) (simp length-sets (omega arith)))
+    ∙ sym (sets-append s t l i))
+    (λ k e. rw e (sym (sets-append s t l i)))
+
+-- no bytes
+pub nothing : (l : List ℕ) (at : ℕ) → length l < 2 ^ 63 → at < 2 ^ 64 → Wrote l at l at (raw [])
+nothing l at h k = record { room = h; text = refl; next = omega arith }
+
+infixr 60 _⨾_
+pub _⨾_ : {l l₁ l₂ : List ℕ} {a a₁ a₂ : ℕ} {s t : Text} → Wrote l a l₁ a₁ s → Wrote l₁ a₁ l₂ a₂ t → Wrote l a l₂ a₂ (s ⊕ t)
+_⨾_ {l} {l₁} {l₂} {a} {a₁} {a₂} {s} {t} p q =
+    record {
+      room = p .room;
+      text = q .text ∙ rw (p .text, p .next) (seam (flat s) (flat t) l a (p .room));
+      next = simp length-append (omega arith);
+    }
+
+pub within : {l l′ : List ℕ} {a a′ : ℕ} {t : Text} → Wrote l a l′ a′ t → a′ < 2 ^ 64
+within w = let e = w .next in omega arith
+
+pub keeps : {l l′ : List ℕ} {a a′ : ℕ} {t : Text} → Wrote l a l′ a′ t → length l′ ≡ length l
+keeps w = ap length (w .text) ∙ simp length-sets
+
+-- a text that fits is written whole
+pub whole : {l l′ : List ℕ} {a′ : ℕ} {t : Text} → Wrote l 0 l′ a′ t → length (flat t) ≤ length l → l′ ≡ flat t ++ drop (length (flat t)) l
+whole {l} {t = t} w h = w .text ∙ sets-eq (flat t) l 0 (omega arith) ∙ rw zero-add
+
+-- a text of the same bytes
+pub same : {l l′ : List ℕ} {a a′ : ℕ} {s t : Text} → flat s ≡ flat t → Wrote l a l′ a′ s → Wrote l a l′ a′ t
+same e w = record { room = w .room; text = w .text ∙ rw e; next = w .next ∙ rw e }
+
+-- which of two texts
+pub pick-true : {l l′ : List ℕ} {a a′ : ℕ} {b : Bool} {s t : Text} → b ≡ true → Wrote l a l′ a′ s → Wrote l a l′ a′ (pick b s t)
+pick-true e w = rw e (record { room = w .room; text = w .text; next = w .next })
+
+pub pick-false : {l l′ : List ℕ} {a a′ : ℕ} {b : Bool} {s t : Text} → b ≡ false → Wrote l a l′ a′ t → Wrote l a l′ a′ (pick b s t)
+pick-false e w = rw e (record { room = w .room; text = w .text; next = w .next })
+
+-- a test of a number that is known
+pub eqb-at : (x m n : ℕ) (b : Bool) → x ≡ m → eqb m n ≡ b → eqb x n ≡ b
+eqb-at x m n b e f = rw e f
+
+-- what `search` is handed at the return of a function that writes text
+pub ruleset texts = (_⨾_, pick-true, pick-false, eqb-at, ne-eqb, le-leb, lt-leb, le-ltb, lt-ltb)

@@ -1,0 +1,14 @@
+use Rattle.text.proofs.Laws.{texts, pick-false, nothing}
+use native.Mathlib.Omega.{arith}
+use borrow.Author.Needs.{needs}
+use Rattle.text.proofs.put_when.Statement.{statement}
+use Rattle.text.proofs.put_when.Tie as tie
+
+pub put-when-spec : {M : Type 1} → statement M
+put-when-spec =
+    tie.close
+    (tie.spec
+    (λ c κs. search needs)
+    (λ c. search needs)
+    (λ c. search (texts, c .before .before .before .before .if1 .taken, c .before .before .put .ensures))
+    (λ c. pick-false (c .if1 .left) (nothing _ _ (omega arith) (omega arith))))

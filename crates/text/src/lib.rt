@@ -1,0 +1,83 @@
+//! Text written into a lent buffer.
+//!
+//! Each function writes at a place of the buffer the bytes that fall inside it, and returns the place behind the last, at most the
+//! largest usize. On an empty buffer it only measures.
+ghost use Prim.Native.Nat.{_<_};
+ghost use mathlib.Core.Path.{_≡_};
+ghost use lib.Seq.{sets};
+ghost use Rattle.text.specs.Text.{raw, pick, when, digit, decimal};
+ghost use Rattle.text.specs.Buffer.{Wrote};
+
+// The bytes of s that fall inside out, from at on.
+fn lay(out: &mut [u8], at: usize, s: &[u8])
+    ensures { λ _. ⌜ now (out .exit) ≡ sets (now (out .entry)) at (now (s .entry)) ⌝ }
+{
+    if out.len() <= at {
+        return;
+    }
+    let room = out.len() - at;
+    let mut i = 0;
+    while i < s.len() {
+        if room <= i {
+            return;
+        }
+        out[at + i] = s[i];
+        i += 1;
+    }
+}
+
+pub fn put(out: &mut [u8], at: usize, s: &[u8]) -> usize
+    ensures { λ r. ⌜ Wrote (now (out .entry)) at (now (out .exit)) r (raw (now (s .entry))) ⌝ }
+{
+    lay(out, at, s);
+    if s.len() <= 18446744073709551615 - at {
+        return at + s.len();
+    }
+    18446744073709551615
+}
+
+// One of two.
+pub fn put_either(out: &mut [u8], at: usize, first: bool, s: &[u8], t: &[u8]) -> usize
+    ensures { λ r. ⌜ Wrote (now (out .entry)) at (now (out .exit)) r (pick first (raw (now (s .entry))) (raw (now (t .entry)))) ⌝ }
+{
+    if first {
+        put(out, at, s)
+    } else {
+        put(out, at, t)
+    }
+}
+
+// Nothing, if the test fails.
+pub fn put_when(out: &mut [u8], at: usize, there: bool, s: &[u8]) -> usize
+    ensures { λ r. ⌜ Wrote (now (out .entry)) at (now (out .exit)) r (when there (raw (now (s .entry)))) ⌝ }
+{
+    if there {
+        return put(out, at, s);
+    }
+    at
+}
+
+pub fn put_digit(out: &mut [u8], at: usize, n: u8) -> usize
+    requires { ⌜ n < 10 ⌝ }
+    ensures { λ r. ⌜ Wrote (now (out .entry)) at (now (out .exit)) r (digit n) ⌝ }
+{
+    let b = [48 + n];
+    put(out, at, &b)
+}
+
+// A number in decimal.
+pub fn put_decimal(out: &mut [u8], at: usize, n: u8) -> usize
+    ensures { λ r. ⌜ Wrote (now (out .entry)) at (now (out .exit)) r (decimal n) ⌝ }
+{
+    let tens = n / 10;
+    if n < 10 {
+        return put_digit(out, at, n);
+    }
+    if tens < 10 {
+        let a = put_digit(out, at, tens);
+        return put_digit(out, a, n % 10);
+    }
+    let a = put_digit(out, at, tens / 10);
+    let b = put_digit(out, a, tens % 10);
+    put_digit(out, b, n % 10)
+}
