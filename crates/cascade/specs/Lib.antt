@@ -1,0 +1,4 @@
+pub mod Keys
+pub mod Stages
+pub mod Reading
+pub mod Warnings

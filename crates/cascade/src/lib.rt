@@ -1,0 +1,42 @@
+//! The cascade of a key: its active stages, what each reads and writes, and the line of each.
+use combiners::Expression;
+
+// An op and its two arguments, in Direct3D 9's codes.
+pub struct Combiner {
+    pub op: u8,
+    pub arg1: u8,
+    pub arg2: u8,
+}
+
+// A texture stage: seven bytes. Flag bit 0: a texture is bound; bit 1: the result goes to TEMP.
+pub struct Stage {
+    pub colour: Combiner,
+    pub alpha: Combiner,
+    pub flags: u8,
+}
+
+// Bit i of projected is for stage i.
+pub struct Key {
+    pub stages: [Stage; 8],
+    pub specular_add: bool,
+    pub projected: u8,
+}
+
+// Where a stage's alpha comes from.
+pub enum Alpha {
+    FromColour,
+    Kept,
+    Written(Expression),
+}
+
+// What a stage writes.
+pub struct Expressions {
+    pub colour: Expression,
+    pub alpha: Alpha,
+}
+
+// A stage with its expressions, or a bump stage, which has none.
+pub enum Decoded {
+    Writes(Expressions),
+    Bump,
+}

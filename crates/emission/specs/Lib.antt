@@ -1,0 +1,4 @@
+pub mod Lookups
+pub mod Output
+pub mod Whole
+pub mod Results
