@@ -1,0 +1,14 @@
+//! The reference for the rewrite: 01's records and results, answered by the unchanged Rust.
+
+pub mod blocks;
+pub mod emission;
+pub mod generate;
+pub mod list;
+pub mod names;
+pub mod program;
+pub mod records;
+pub mod rules;
+pub mod worked;
+
+pub use emission::{Outcome, emit};
+pub use program::{INPUT_CAP, TEXT_CAP, program};

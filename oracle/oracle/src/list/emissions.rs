@@ -1,0 +1,235 @@
+//! The inputs of the list that are accepted.
+
+use crate::{
+    emission::emit,
+    generate::{self, FOG_MODES, MODIFIERS, Rng, SAMPLING, TEXT_OPS, bump_chain},
+    records::{
+        Combiner, Key, Kind, POINT_SPRITE, SRGB_WRITE, STAGES, Stage, TEXTURED, TO_TEMP, Triple,
+        Variant, record,
+    },
+    worked,
+};
+
+/// How much the emits of one input print at most.
+const PRINTED: usize = 16_000;
+const ALPHA_FUNCS: [u8; 11] = [0, 1, 2, 3, 4, 5, 6, 7, 8, 9, 255];
+
+pub fn inputs(rng: &mut Rng) -> Vec<Vec<u8>> {
+    let mut maker = Maker { rng, made: 0 };
+    let sections = [
+        maker.op_codes(),
+        maker.combiners(),
+        maker.bump_chains(),
+        maker.lookups(),
+        maker.ends(),
+        maker.random(),
+        maker.everyday(),
+    ];
+    let alone = |triple| pack(&[triple]);
+    let worked = worked::all().into_iter().flat_map(alone);
+    worked
+        .chain(sections.iter().flat_map(|s| pack(s)))
+        .collect()
+}
+
+/// Joins triples to inputs, each triple with the records that changed.
+fn pack(triples: &[Triple]) -> Vec<Vec<u8>> {
+    let mut inputs: Vec<Vec<u8>> = Vec::new();
+    let mut held: Option<&Triple> = None;
+    let mut printed = 0;
+    for triple in triples {
+        let length = emit(triple).text.len();
+        if held.is_none() || printed + length > PRINTED {
+            inputs.push(Vec::new());
+            held = None;
+            printed = 0;
+        }
+        let input = inputs.last_mut().expect("one begun");
+        if held.is_none_or(|h| h.key != triple.key) {
+            input.extend(record(Kind::Key, &triple.key.body()));
+        }
+        if held.is_none_or(|h| h.variant != triple.variant) {
+            input.extend(record(Kind::Variant, &triple.variant.body()));
+        }
+        if held.is_none_or(|h| h.entry != triple.entry) {
+            input.extend(record(Kind::Entry, &triple.entry.body()));
+        }
+        input.extend(record(Kind::Emit, &[]));
+        held = Some(triple);
+        printed += length;
+    }
+    inputs
+}
+
+struct Maker<'a> {
+    rng: &'a mut Rng,
+    made: usize,
+}
+
+impl Maker<'_> {
+    /// A triple without masks. The first go through the settings behind the cascade; later ones leave
+    /// out what makes a text much longer.
+    fn triple(&mut self, key: Key) -> Triple {
+        let n = self.made;
+        self.made += 1;
+        let mut variant = Variant {
+            alpha_func: ALPHA_FUNCS[n % 11],
+            sample_mask: self.rng.byte(),
+            flags: (n * 37 % 64) as u8,
+            ..Variant::default()
+        };
+        if n < FOG_MODES.len().pow(2) {
+            variant.fog_mode = FOG_MODES[n % 6];
+            variant.fog_table_mode = FOG_MODES[n / 6 % 6];
+        } else {
+            variant.flags &= !(POINT_SPRITE | SRGB_WRITE);
+        }
+        let length = [1, 32, 1 + n % 32][n % 3];
+        Triple {
+            key,
+            variant,
+            entry: generate::name(self.rng, length),
+        }
+    }
+
+    fn triples(&mut self, keys: &[Key]) -> Vec<Triple> {
+        keys.iter().map(|key| self.triple(*key)).collect()
+    }
+
+    /// Every colour op but 1, and every alpha op beside a colour op that leaves it its say.
+    fn op_codes(&mut self) -> Vec<Triple> {
+        let stage = |color, alpha| Stage {
+            color: Combiner::new(color, 0, 4),
+            alpha: Combiner::new(alpha, 1, 0),
+            flags: 0,
+        };
+        let mut stages: Vec<Stage> = (0..=255)
+            .filter(|&color| color != 1)
+            .map(|color| stage(color, color ^ 0x80))
+            .collect();
+        stages.extend([1, 22, 23, 24].map(|color| stage(2, color ^ 0x80)));
+        let keys: Vec<Key> = stages.chunks(STAGES).map(Key::of).collect();
+        self.triples(&keys)
+    }
+
+    /// Every op with a text, with and without texture, in colour and in alpha, with selectors 0 to 6
+    /// and one above in argument 1, and so in argument 2; every pair of these selectors somewhere.
+    fn combiners(&mut self) -> Vec<Triple> {
+        let mut stages = Vec::new();
+        for flags in [0, TEXTURED] {
+            for n in 0..TEXT_OPS.len() {
+                for first in 0..8 {
+                    stages.extend(self.combiner_stages(n, first, flags));
+                }
+            }
+        }
+        self.rng.shuffle(&mut stages);
+        let keys: Vec<Key> = stages.chunks(STAGES).map(Key::of).collect();
+        self.triples(&keys)
+    }
+
+    /// A stage for the `n`th op; a second one where the first takes alpha from colour.
+    fn combiner_stages(&mut self, n: usize, first: usize, flags: u8) -> Vec<Stage> {
+        let shift = usize::from(flags);
+        let alpha_n = (n + first) % TEXT_OPS.len();
+        let color = self.combiner(n, first, 3 * first + 2 * n + shift);
+        let alpha = self.combiner(alpha_n, first, 5 * first + 2 * alpha_n + shift);
+        let to_temp = (n + 2 * first).is_multiple_of(5);
+        let stage = |color| Stage {
+            color,
+            alpha,
+            flags: flags | if to_temp { TO_TEMP } else { 0 },
+        };
+        let mut stages = vec![stage(color)];
+        if color.op == 24 {
+            stages.push(stage(Combiner::new(2, 0, 0)));
+        }
+        stages
+    }
+
+    fn combiner(&mut self, n: usize, first: usize, second: usize) -> Combiner {
+        Combiner::new(TEXT_OPS[n], self.argument(first), self.argument(second))
+    }
+
+    fn argument(&mut self, choice: usize) -> u8 {
+        let selector = match choice % 8 {
+            7 => 7 + self.rng.below(9),
+            known => known,
+        };
+        selector as u8 | self.rng.pick(&MODIFIERS)
+    }
+
+    /// Chains of every length, of luminance stages with textures and mixed; short ones of others.
+    fn bump_chains(&mut self) -> Vec<Triple> {
+        const TEXTURED_22: u16 = 0x5555;
+        const PLAIN_23: u16 = 0xaaaa;
+        const TEXTURED_23: u16 = 0xffff;
+        let mut keys = Vec::new();
+        for length in 1..=STAGES {
+            let mixed = self.rng.next_u64() as u16;
+            keys.extend([TEXTURED_23, mixed].map(|p| bump_chain(length, p, true)));
+        }
+        for length in [1, 2, 3] {
+            keys.extend([TEXTURED_22, PLAIN_23].map(|p| bump_chain(length, p, true)));
+            keys.push(bump_chain(length, TEXTURED_23, false));
+        }
+        let mut triples = self.triples(&keys);
+        for triple in &mut triples {
+            triple.key.projected = self.rng.byte();
+            triple.variant.masks = self.masks();
+        }
+        triples
+    }
+
+    fn masks(&mut self) -> [u16; 7] {
+        std::array::from_fn(|_| (self.rng.next_u64() & self.rng.next_u64()) as u16)
+    }
+
+    /// Every combination of the seven masks at a stage with a lookup; the bits above the eighth,
+    /// which have no effect, at random.
+    fn lookups(&mut self) -> Vec<Triple> {
+        let mut combinations: Vec<usize> = (0..128).collect();
+        self.rng.shuffle(&mut combinations);
+        let mut triples = Vec::new();
+        for combination in combinations.chunks(STAGES) {
+            let mut key = Key::of(&[SAMPLING; STAGES]);
+            key.projected = self.rng.byte();
+            let mut triple = self.triple(key);
+            for (n, mask) in triple.variant.masks.iter_mut().enumerate() {
+                let bit = |i: usize| (combination[i] >> n & 1) << i;
+                let effective: usize = (0..STAGES).map(bit).sum();
+                *mask = effective as u16 | u16::from(self.rng.byte()) << 8;
+            }
+            triples.push(triple);
+        }
+        triples
+    }
+
+    /// A key that ends at each place, with much behind the end.
+    fn ends(&mut self) -> Vec<Triple> {
+        let keys: Vec<Key> = (0..STAGES)
+            .map(|end| {
+                let mut key = generate::key(self.rng);
+                for stage in &mut key.stages[..end] {
+                    stage.color = Combiner::new(4, 1, 6);
+                    stage.alpha.op = 1;
+                }
+                key.stages[end].color.op = 1;
+                key.specular = (end % 2) as u8;
+                key
+            })
+            .collect();
+        self.triples(&keys)
+    }
+
+    fn random(&mut self) -> Vec<Triple> {
+        (0..4).map(|_| generate::triple(self.rng)).collect()
+    }
+
+    /// With one entry and few variants, so that these stay in force; the last key emits twice.
+    fn everyday(&mut self) -> Vec<Triple> {
+        let mut triples: Vec<Triple> = (0..6).map(|_| generate::everyday(self.rng)).collect();
+        triples.extend_from_within(5..);
+        triples
+    }
+}

@@ -1,0 +1,142 @@
+//! What 01 says that program `ffps` prints.
+
+use std::io::Write;
+
+use crate::{
+    emission::{Outcome, emit},
+    records::{Entry, Key, Kind, Refusal, Triple, Variant},
+};
+
+pub const INPUT_CAP: usize = 32_768;
+pub const TEXT_CAP: usize = 16_384;
+
+/// A record at the front of some bytes, free of causes.
+enum Record {
+    Key(Key),
+    Variant(Variant),
+    Entry(Entry),
+    Emit,
+}
+
+impl Record {
+    const fn kind(&self) -> Kind {
+        match self {
+            Self::Key(_) => Kind::Key,
+            Self::Variant(_) => Kind::Variant,
+            Self::Entry(_) => Kind::Entry,
+            Self::Emit => Kind::Emit,
+        }
+    }
+
+    fn cause(&self) -> Option<Refusal> {
+        match self {
+            Self::Key(key) => key.cause(),
+            Self::Variant(variant) => variant.cause(),
+            Self::Entry(entry) => entry.cause(),
+            Self::Emit => None,
+        }
+    }
+
+    fn read(bytes: &[u8]) -> Result<Self, Refusal> {
+        let (&kind, rest) = bytes.split_first().ok_or(Refusal::Cut)?;
+        let kind = Kind::of(kind).ok_or(Refusal::Kind)?;
+        let body = rest.get(..kind.size()).ok_or(Refusal::Cut)?;
+        let record = match kind {
+            Kind::Key => Self::Key(Key::from_body(body)),
+            Kind::Variant => Self::Variant(Variant::from_body(body)),
+            Kind::Entry => Self::Entry(Entry::from_body(body)),
+            Kind::Emit => Self::Emit,
+        };
+        record.cause().map_or(Ok(record), Err)
+    }
+}
+
+/// The held key, variant and entry.
+#[derive(Default)]
+struct Held {
+    key: Option<Key>,
+    variant: Option<Variant>,
+    entry: Option<Entry>,
+}
+
+impl Held {
+    /// Takes a record; an emit record has an outcome.
+    fn apply(&mut self, record: Record, text_cap: usize) -> Result<Option<Outcome>, Refusal> {
+        match record {
+            Record::Key(key) => self.key = Some(key),
+            Record::Variant(variant) => self.variant = Some(variant),
+            Record::Entry(entry) => self.entry = Some(entry),
+            Record::Emit => return self.emit(text_cap).map(Some),
+        }
+        Ok(None)
+    }
+
+    fn emit(&self, text_cap: usize) -> Result<Outcome, Refusal> {
+        let (Some(key), Some(variant), Some(entry)) = (self.key, self.variant, self.entry) else {
+            return Err(Refusal::NothingHeld);
+        };
+        let outcome = emit(&Triple {
+            key,
+            variant,
+            entry,
+        });
+        if outcome.text.len() > text_cap {
+            return Err(Refusal::LongText);
+        }
+        Ok(outcome)
+    }
+}
+
+/// The bytes that the program prints for `input`, with a text buffer of `text_cap` bytes.
+#[must_use]
+pub fn program(input: &[u8], text_cap: usize) -> Vec<u8> {
+    let mut out = Vec::new();
+    match run(input, text_cap, &mut out) {
+        Ok(texts) => print(&mut out, format_args!("end {texts}\n")),
+        Err((refusal, at)) => {
+            print(
+                &mut out,
+                format_args!("refused {} at {at}\n", refusal.number()),
+            );
+        }
+    }
+    out
+}
+
+/// Prints the emissions; gives their number, or what was refused and where.
+fn run(input: &[u8], text_cap: usize, out: &mut Vec<u8>) -> Result<usize, (Refusal, usize)> {
+    if input.len() > INPUT_CAP {
+        return Err((Refusal::LongInput, INPUT_CAP));
+    }
+    let mut held = Held::default();
+    let (mut at, mut texts) = (0, 0);
+    while at < input.len() {
+        let refused = |refusal| (refusal, at);
+        let record = Record::read(&input[at..]).map_err(refused)?;
+        let size = 1 + record.kind().size();
+        if let Some(outcome) = held.apply(record, text_cap).map_err(refused)? {
+            print_outcome(out, &outcome);
+            texts += 1;
+        }
+        at += size;
+    }
+    Ok(texts)
+}
+
+fn print_outcome(out: &mut Vec<u8>, o: &Outcome) {
+    let Outcome {
+        mask,
+        rows,
+        lookups,
+        warning,
+        text,
+    } = o;
+    print(
+        out,
+        format_args!("emit {mask} {rows} {lookups} {warning}\n{text}"),
+    );
+}
+
+fn print(out: &mut Vec<u8>, text: std::fmt::Arguments) {
+    out.write_fmt(text).expect("a vector takes all");
+}

@@ -1,0 +1,381 @@
+//! 01's records: kinds, bodies as plain values, and the causes that refuse them.
+
+pub const STAGES: usize = 8;
+pub const KEY: usize = STAGES * STAGE + 2;
+pub const VARIANT: usize = 19;
+pub const ENTRY: usize = NAME + 1;
+/// The three bodies behind one another.
+pub const TRIPLE: usize = KEY + VARIANT + ENTRY;
+
+const STAGE: usize = 7;
+const NAME: usize = 32;
+const MASKS: usize = 7;
+
+/// Bits of a stage's flags.
+pub const TEXTURED: u8 = 1;
+pub const TO_TEMP: u8 = 2;
+
+/// Places of a variant's masks.
+pub const DEPTH: usize = 0;
+pub const DEPTH_FETCH: usize = 1;
+pub const FETCH4: usize = 2;
+pub const FETCH4_ALPHA: usize = 3;
+pub const RAW_DEPTH_RED: usize = 4;
+pub const VOLUME: usize = 5;
+pub const CUBE: usize = 6;
+
+/// Bits of a variant's flags.
+pub const FLAT_SHADE: u8 = 1;
+pub const SRGB_WRITE: u8 = 2;
+pub const SAMPLE_MASK: u8 = 4;
+pub const POINT_SPRITE: u8 = 8;
+pub const LOD_BIAS: u8 = 16;
+pub const FOG_SOURCE_W: u8 = 32;
+
+/// A line of 01's table of refusals, by its number.
+#[derive(Clone, Copy, Debug, PartialEq, Eq)]
+#[repr(u8)]
+pub enum Refusal {
+    Cut = 1,
+    Kind,
+    StageFlag,
+    Specular,
+    VariantFlag,
+    Entry,
+    NothingHeld,
+    LongText,
+    LongInput,
+}
+
+impl Refusal {
+    pub const ALL: [Self; 9] = [
+        Self::Cut,
+        Self::Kind,
+        Self::StageFlag,
+        Self::Specular,
+        Self::VariantFlag,
+        Self::Entry,
+        Self::NothingHeld,
+        Self::LongText,
+        Self::LongInput,
+    ];
+
+    #[must_use]
+    pub const fn number(self) -> u8 {
+        self as u8
+    }
+}
+
+#[derive(Clone, Copy, Debug, PartialEq, Eq)]
+#[repr(u8)]
+pub enum Kind {
+    Key = 1,
+    Variant,
+    Entry,
+    Emit,
+}
+
+impl Kind {
+    #[must_use]
+    pub const fn of(byte: u8) -> Option<Self> {
+        match byte {
+            1 => Some(Self::Key),
+            2 => Some(Self::Variant),
+            3 => Some(Self::Entry),
+            4 => Some(Self::Emit),
+            _ => None,
+        }
+    }
+
+    /// Bytes of the body.
+    #[must_use]
+    pub const fn size(self) -> usize {
+        match self {
+            Self::Key => KEY,
+            Self::Variant => VARIANT,
+            Self::Entry => ENTRY,
+            Self::Emit => 0,
+        }
+    }
+}
+
+/// An operation and its arguments 1 and 2.
+#[derive(Clone, Copy, Debug, Default, PartialEq, Eq)]
+pub struct Combiner {
+    pub op: u8,
+    pub arg1: u8,
+    pub arg2: u8,
+}
+
+impl Combiner {
+    #[must_use]
+    pub const fn new(op: u8, arg1: u8, arg2: u8) -> Self {
+        Self { op, arg1, arg2 }
+    }
+}
+
+#[derive(Clone, Copy, Debug, Default, PartialEq, Eq)]
+pub struct Stage {
+    pub color: Combiner,
+    pub alpha: Combiner,
+    pub flags: u8,
+}
+
+impl Stage {
+    /// A stage with colour op 1 and all else 0.
+    pub const DISABLED: Self = Self {
+        color: Combiner::new(1, 0, 0),
+        alpha: Combiner::new(0, 0, 0),
+        flags: 0,
+    };
+
+    #[must_use]
+    pub const fn textured(self) -> bool {
+        self.flags & TEXTURED != 0
+    }
+
+    #[must_use]
+    pub const fn to_temp(self) -> bool {
+        self.flags & TO_TEMP != 0
+    }
+
+    fn from_bytes(b: &[u8]) -> Self {
+        Self {
+            color: Combiner::new(b[0], b[1], b[2]),
+            alpha: Combiner::new(b[3], b[4], b[5]),
+            flags: b[6],
+        }
+    }
+
+    fn bytes(self) -> [u8; STAGE] {
+        let Self {
+            color: c,
+            alpha: a,
+            flags,
+        } = self;
+        [c.op, c.arg1, c.arg2, a.op, a.arg1, a.arg2, flags]
+    }
+}
+
+#[derive(Clone, Copy, Debug, PartialEq, Eq)]
+pub struct Key {
+    pub stages: [Stage; STAGES],
+    pub specular: u8,
+    pub projected: u8,
+}
+
+impl Key {
+    /// A key with the given stages in front, and colour op 1 in every other.
+    ///
+    /// # Panics
+    /// With more than eight stages.
+    #[must_use]
+    pub fn of(front: &[Stage]) -> Self {
+        let mut stages = [Stage::DISABLED; STAGES];
+        stages[..front.len()].copy_from_slice(front);
+        Self {
+            stages,
+            specular: 0,
+            projected: 0,
+        }
+    }
+
+    /// # Panics
+    /// Unless `body` has the size of a key.
+    #[must_use]
+    pub fn from_body(body: &[u8]) -> Self {
+        assert_eq!(body.len(), KEY);
+        let (stages, rest) = body.split_at(STAGES * STAGE);
+        Self {
+            stages: std::array::from_fn(|i| Stage::from_bytes(&stages[i * STAGE..])),
+            specular: rest[0],
+            projected: rest[1],
+        }
+    }
+
+    #[must_use]
+    pub fn body(&self) -> Vec<u8> {
+        let mut out: Vec<u8> = self.stages.iter().flat_map(|s| s.bytes()).collect();
+        out.extend([self.specular, self.projected]);
+        out
+    }
+
+    #[must_use]
+    pub fn cause(&self) -> Option<Refusal> {
+        if self.stages.iter().any(|s| s.flags > TEXTURED | TO_TEMP) {
+            Some(Refusal::StageFlag)
+        } else if self.specular > 1 {
+            Some(Refusal::Specular)
+        } else {
+            None
+        }
+    }
+}
+
+#[derive(Clone, Copy, Debug, Default, PartialEq, Eq)]
+pub struct Variant {
+    pub alpha_func: u8,
+    pub fog_mode: u8,
+    pub fog_table_mode: u8,
+    pub masks: [u16; MASKS],
+    pub sample_mask: u8,
+    pub flags: u8,
+}
+
+impl Variant {
+    /// # Panics
+    /// Unless `body` has the size of a variant.
+    #[must_use]
+    pub fn from_body(body: &[u8]) -> Self {
+        assert_eq!(body.len(), VARIANT);
+        let mask = |n: usize| u16::from_le_bytes([body[3 + 2 * n], body[4 + 2 * n]]);
+        Self {
+            alpha_func: body[0],
+            fog_mode: body[1],
+            fog_table_mode: body[2],
+            masks: std::array::from_fn(mask),
+            sample_mask: body[17],
+            flags: body[18],
+        }
+    }
+
+    #[must_use]
+    pub fn body(&self) -> Vec<u8> {
+        let mut out = vec![self.alpha_func, self.fog_mode, self.fog_table_mode];
+        out.extend(self.masks.iter().flat_map(|m| m.to_le_bytes()));
+        out.extend([self.sample_mask, self.flags]);
+        out
+    }
+
+    #[must_use]
+    pub const fn cause(&self) -> Option<Refusal> {
+        if self.flags & 0xc0 != 0 {
+            Some(Refusal::VariantFlag)
+        } else {
+            None
+        }
+    }
+}
+
+#[derive(Clone, Copy, Debug, PartialEq, Eq)]
+pub struct Entry {
+    pub length: u8,
+    pub bytes: [u8; NAME],
+}
+
+impl Entry {
+    /// # Panics
+    /// With more than 32 bytes.
+    #[must_use]
+    pub fn new(name: &[u8]) -> Self {
+        let mut bytes = [0; NAME];
+        bytes[..name.len()].copy_from_slice(name);
+        let length = u8::try_from(name.len()).expect("at most 32");
+        Self { length, bytes }
+    }
+
+    /// # Panics
+    /// Unless `body` has the size of an entry.
+    #[must_use]
+    pub fn from_body(body: &[u8]) -> Self {
+        assert_eq!(body.len(), ENTRY);
+        Self {
+            length: body[0],
+            bytes: std::array::from_fn(|i| body[1 + i]),
+        }
+    }
+
+    #[must_use]
+    pub fn body(&self) -> Vec<u8> {
+        let mut out = vec![self.length];
+        out.extend(self.bytes);
+        out
+    }
+
+    #[must_use]
+    pub fn cause(&self) -> Option<Refusal> {
+        let good = (1..=NAME).contains(&usize::from(self.length)) && {
+            let (name, tail) = self.bytes.split_at(usize::from(self.length));
+            let letter = |b: u8| b.is_ascii_alphabetic() || b == b'_';
+            letter(name[0])
+                && name.iter().all(|&b| letter(b) || b.is_ascii_digit())
+                && tail.iter().all(|&b| b == 0)
+        };
+        if good { None } else { Some(Refusal::Entry) }
+    }
+
+    /// The name of an entry free of causes.
+    ///
+    /// # Panics
+    /// If the entry is refused.
+    #[must_use]
+    pub fn name(&self) -> &str {
+        std::str::from_utf8(&self.bytes[..usize::from(self.length)]).expect("ASCII")
+    }
+}
+
+/// What one emission is made from.
+#[derive(Clone, Copy, Debug, PartialEq, Eq)]
+pub struct Triple {
+    pub key: Key,
+    pub variant: Variant,
+    pub entry: Entry,
+}
+
+impl Triple {
+    /// The key with a zero variant and entry `m`.
+    #[must_use]
+    pub fn plain(key: Key) -> Self {
+        Self {
+            key,
+            variant: Variant::default(),
+            entry: Entry::new(b"m"),
+        }
+    }
+
+    /// # Panics
+    /// Unless `bodies` has the size of the three bodies.
+    #[must_use]
+    pub fn from_bodies(bodies: &[u8]) -> Self {
+        let (key, rest) = bodies.split_at(KEY);
+        let (variant, entry) = rest.split_at(VARIANT);
+        Self {
+            key: Key::from_body(key),
+            variant: Variant::from_body(variant),
+            entry: Entry::from_body(entry),
+        }
+    }
+
+    #[must_use]
+    pub fn bodies(&self) -> Vec<u8> {
+        [self.key.body(), self.variant.body(), self.entry.body()].concat()
+    }
+
+    /// The three records.
+    #[must_use]
+    pub fn records(&self) -> Vec<u8> {
+        let key = record(Kind::Key, &self.key.body());
+        let variant = record(Kind::Variant, &self.variant.body());
+        let entry = record(Kind::Entry, &self.entry.body());
+        [key, variant, entry].concat()
+    }
+
+    /// The first cause in the order of the numbers.
+    #[must_use]
+    pub fn cause(&self) -> Option<Refusal> {
+        self.key
+            .cause()
+            .or_else(|| self.variant.cause())
+            .or_else(|| self.entry.cause())
+    }
+}
+
+/// One record.
+///
+/// # Panics
+/// Unless `body` has the size of its kind.
+#[must_use]
+pub fn record(kind: Kind, body: &[u8]) -> Vec<u8> {
+    assert_eq!(body.len(), kind.size());
+    [&[kind as u8], body].concat()
+}
