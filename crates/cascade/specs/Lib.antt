@@ -2,3 +2,4 @@ pub mod Keys
 pub mod Stages
 pub mod Reading
 pub mod Warnings
+pub mod Survey

@@ -25,12 +25,16 @@ unknownModifier a = leb 0x40 a
 abbrev pub either : (ℕ → Bool) → Combiner → Bool
 either f c = f (c .arg1) || f (c .arg2)
 
--- a cause holds of a combiner that the stage applies: of colour, and of alpha where that is an expression; outside a fallback, and of no bump stage
+-- the combiners that the stage applies: colour's outside a fallback, and alpha's where that is an expression outside a fallback; a bump stage none
+unfoldable pub appliesColour : Stage → Bool
+appliesColour s = not (bump s) && not (fallsBack (textured s) (s .colour))
+
+unfoldable pub appliesAlpha : Stage → Bool
+appliesAlpha s = not (bump s) && (alphaWritten s && not (fallsBack (textured s) (s .alpha)))
+
+-- a cause holds of a combiner that the stage applies
 unfoldable pub warns : (Combiner → Bool) → Stage → Bool
-warns f s =
-    not (bump s)
-    && ((not (fallsBack (textured s) (s .colour)) && f (s .colour))
-    || (alphaWritten s && (not (fallsBack (textured s) (s .alpha)) && f (s .alpha))))
+warns f s = (appliesColour s && f (s .colour)) || (appliesAlpha s && f (s .alpha))
 
 unfoldable pub anyWarns : (Combiner → Bool) → List Stage → Bool
 anyWarns f [] = false

@@ -1,4 +1,9 @@
 //! The cascade of a key: its active stages, what each reads and writes, and the line of each.
+pub mod decode;
+pub mod keys;
+pub mod line;
+pub mod reading;
+
 use combiners::Expression;
 
 // An op and its two arguments, in Direct3D 9's codes.
@@ -39,4 +44,33 @@ pub struct Expressions {
 pub enum Decoded {
     Writes(Expressions),
     Bump,
+}
+
+// What the stages say each by itself: the mask, the last constant row, whether the factor is named and TEMP read, and causes of warnings.
+pub struct Facts {
+    pub mask: u8,
+    pub constant: u8,
+    pub factor: bool,
+    pub live: bool,
+    pub op: bool,
+    pub selector: bool,
+    pub modifier: bool,
+}
+
+// What they say once it is known whether TEMP is live: whether the first is marked, all marks, and whether `bump_env` is read.
+pub struct Marks {
+    pub next: bool,
+    pub marks: u8,
+    pub bump_env: bool,
+}
+
+// What a key says before any byte of text.
+pub struct Survey {
+    pub count: usize,
+    pub mask: u8,
+    pub rows: u8,
+    pub warning: u8,
+    pub live: bool,
+    pub marks: u8,
+    pub bump_env: bool,
 }

@@ -1,0 +1,12 @@
+use Rattle.cascade.specs.Keys.{fallsBack}
+use borrow.Author.Needs.{needs}
+use Rattle.cascade.proofs.keys.falls_back.Statement.{statement}
+use Rattle.cascade.proofs.keys.falls_back.Tie as tie
+
+pub falls-back-spec : {M : Type 1} → statement M
+unfolding fallsBack
+falls-back-spec =
+    tie.close
+    (tie.spec
+    (λ c κs. search needs)
+    (λ c. cc))

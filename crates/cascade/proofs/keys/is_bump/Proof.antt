@@ -1,0 +1,14 @@
+use Rattle.cascade.specs.Keys.{bump}
+use borrow.Author.Needs.{needs}
+use Rattle.cascade.proofs.keys.is_bump.Statement.{statement}
+use Rattle.cascade.proofs.keys.is_bump.Tie as tie
+
+pub is-bump-spec : {M : Type 1} → statement M
+unfolding bump
+is-bump-spec =
+    tie.close
+    (tie.spec
+    (λ c κs. search needs)
+    (λ c κs. search needs)
+    (λ c κs. search needs)
+    (λ c. cc))

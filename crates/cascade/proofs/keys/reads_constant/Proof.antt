@@ -1,0 +1,17 @@
+use Rattle.cascade.specs.Keys.{readsConstant}
+use borrow.Author.Needs.{needs}
+use Rattle.cascade.proofs.keys.reads_constant.Statement.{statement}
+use Rattle.cascade.proofs.keys.reads_constant.Tie as tie
+
+pub reads-constant-spec : {M : Type 1} → statement M
+unfolding readsConstant
+reads-constant-spec =
+    tie.close
+    (tie.spec
+    (λ c κs. search needs)
+    (λ c κs. search needs)
+    (λ c κs. search needs)
+    (λ c κs. search needs)
+    (λ c κs. search needs)
+    (λ c κs. search needs)
+    (λ c. cc))

@@ -1,0 +1,15 @@
+use Rattle.cascade.specs.Reading.{alphaWritten}
+use borrow.Author.Needs.{needs}
+use Rattle.cascade.proofs.reading.alpha_written.Statement.{statement}
+use Rattle.cascade.proofs.reading.alpha_written.Tie as tie
+
+pub alpha-written-spec : {M : Type 1} → statement M
+unfolding alphaWritten
+alpha-written-spec =
+    tie.close
+    (tie.spec
+    (λ c κs. search needs)
+    (λ c κs. search needs)
+    (λ c κs. search needs)
+    (λ c κs. search needs)
+    (λ c. cc))

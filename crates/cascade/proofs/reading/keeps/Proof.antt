@@ -1,0 +1,15 @@
+use Rattle.cascade.specs.Reading.{keeps}
+use borrow.Author.Needs.{needs}
+use Rattle.cascade.proofs.reading.keeps.Statement.{statement}
+use Rattle.cascade.proofs.reading.keeps.Tie as tie
+
+pub keeps-spec : {M : Type 1} → statement M
+unfolding keeps
+keeps-spec =
+    tie.close
+    (tie.spec
+    (λ c κs. search needs)
+    (λ c κs. search needs)
+    (λ c κs. search needs)
+    (λ c κs. search needs)
+    (λ c. cc))

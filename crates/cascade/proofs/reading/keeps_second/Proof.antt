@@ -1,0 +1,10 @@
+use borrow.Author.Needs.{needs}
+use Rattle.cascade.proofs.reading.keeps_second.Statement.{statement}
+use Rattle.cascade.proofs.reading.keeps_second.Tie as tie
+
+pub keeps-second-spec : {M : Type 1} → statement M
+keeps-second-spec =
+    tie.close
+    (tie.spec
+    (λ c κs. search needs)
+    (λ c. cc))

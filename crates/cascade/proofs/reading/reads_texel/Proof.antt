@@ -1,0 +1,15 @@
+use Rattle.cascade.specs.Reading.{readsTexel}
+use borrow.Author.Needs.{needs}
+use Rattle.cascade.proofs.reading.reads_texel.Statement.{statement}
+use Rattle.cascade.proofs.reading.reads_texel.Tie as tie
+
+pub reads-texel-spec : {M : Type 1} → statement M
+unfolding readsTexel
+reads-texel-spec =
+    tie.close
+    (tie.spec
+    (λ c κs. search needs)
+    (λ c κs. search needs)
+    (λ c κs. search needs)
+    (λ c κs. search needs)
+    (λ c. cc))

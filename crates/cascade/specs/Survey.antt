@@ -1,0 +1,46 @@
+-- What a key says before any byte of text: everything of the result but the text's length, and what the text needs to know of the whole cascade.
+use Prim.Native.Nat.{ℕ, suc, _+_, _*_}
+use mathlib.Core.Bool.{Bool, true, false, _&&_, _||_, not, cond}
+use mathlib.Core.List.{List, [], _∷_}
+use lib.Dec.{eqb}
+use Rattle.cascade.specs.Keys.{textured, active, activeCount, bump, maskOf, readsConstant, namesFactor, lastConstant, anyFactor, rowsOf}
+use Rattle.cascade.specs.Reading.{readsTemp, live, marked, readsBumpEnv}
+use Rattle.cascade.specs.Warnings.{withoutText, unknownSelector, unknownModifier, either, warns, anyWarns, stageWarnings}
+use Rattle.cascade.specs.declared.Stage.{Stage}
+use Rattle.cascade.specs.declared.Facts.{Facts}
+use Rattle.cascade.specs.declared.Marks.{Marks}
+use Rattle.cascade.specs.declared.Survey.{Survey}
+
+-- the marked lookups, the first stage's bit the lowest
+unfoldable pub marksOf : Bool → List Stage → ℕ
+marksOf alive [] = 0
+marksOf alive (s ∷ r) = cond (marked alive (s ∷ r)) 1 0 + 2 * marksOf alive r
+
+-- what the stages from number i on say each by itself
+unfoldable pub factsOf : ℕ → List Stage → Facts
+factsOf i ss =
+    record {
+      mask = maskOf ss;
+      constant = lastConstant i ss;
+      factor = anyFactor ss;
+      live = live ss;
+      op = anyWarns withoutText ss;
+      selector = anyWarns (either unknownSelector) ss;
+      modifier = anyWarns (either unknownModifier) ss;
+    }
+
+-- what they say once it is known whether TEMP is live
+unfoldable pub marksFrom : Bool → List Stage → Marks
+marksFrom alive ss = record { next = marked alive ss; marks = marksOf alive ss; «bump_env» = readsBumpEnv alive ss }
+
+unfoldable pub surveyOf : List Stage → Survey
+surveyOf stages =
+    record {
+      count = activeCount stages;
+      mask = maskOf (active stages);
+      rows = rowsOf (active stages);
+      warning = stageWarnings (active stages);
+      live = live (active stages);
+      marks = marksOf (live (active stages)) (active stages);
+      «bump_env» = readsBumpEnv (live (active stages)) (active stages);
+    }

@@ -1,0 +1,98 @@
+//! The line of a stage.
+use crate::Alpha;
+use crate::Expressions;
+use combiners::Expression;
+use combiners::combine::put_expression;
+use text::put;
+use text::put_either;
+ghost use Prim.Native.Nat.{_<_};
+ghost use Rattle.text.specs.Text.{raw, _⊕_};
+ghost use Rattle.text.specs.Buffer.{Wrote};
+ghost use Rattle.combiners.specs.Combiners.{expressionText};
+ghost use Rattle.cascade.specs.Stages.{resultName, lineText};
+ghost use Rattle.cascade.specs.declared.Alpha.the-variants.{FromColour, Kept, Written};
+
+fn put_result(out: &mut [u8], at: usize, to_temp: bool) -> usize
+    ensures { λ r. ⌜ Wrote (now (out .entry)) at (now (out .exit)) r (resultName «to_temp») ⌝ }
+{
+    put_either(out, at, to_temp, b"temp", b"current")
+}
+
+fn put_from_colour(
+    out: &mut [u8],
+    at: usize,
+    colour: Expression,
+    stage: u8,
+    textured: bool,
+    to_temp: bool,
+) -> usize
+    requires { ⌜ stage < 8 ⌝ }
+    ensures { λ r. ⌜ Wrote (now (out .entry)) at (now (out .exit)) r (lineText stage textured «to_temp» colour FromColour) ⌝ }
+{
+    let a = put(out, at, b"    ");
+    let b = put_result(out, a, to_temp);
+    let c = put(out, b, b" = ");
+    let d = put_expression(out, c, colour, stage, textured);
+    put(out, d, b";\n")
+}
+
+fn put_kept(
+    out: &mut [u8],
+    at: usize,
+    colour: Expression,
+    stage: u8,
+    textured: bool,
+    to_temp: bool,
+) -> usize
+    requires { ⌜ stage < 8 ⌝ }
+    ensures { λ r. ⌜ Wrote (now (out .entry)) at (now (out .exit)) r (lineText stage textured «to_temp» colour Kept) ⌝ }
+{
+    let a = put(out, at, b"    ");
+    let b = put_result(out, a, to_temp);
+    let c = put(out, b, b" = float4((");
+    let d = put_expression(out, c, colour, stage, textured);
+    let e = put(out, d, b").rgb, (");
+    let f = put_result(out, e, to_temp);
+    put(out, f, b").a);\n")
+}
+
+fn put_written(
+    out: &mut [u8],
+    at: usize,
+    colour: Expression,
+    alpha: Expression,
+    stage: u8,
+    textured: bool,
+    to_temp: bool,
+) -> usize
+    requires { ⌜ stage < 8 ⌝ }
+    ensures { λ r. ⌜ Wrote (now (out .entry)) at (now (out .exit)) r (lineText stage textured «to_temp» colour (Written alpha)) ⌝ }
+{
+    let a = put(out, at, b"    ");
+    let b = put_result(out, a, to_temp);
+    let c = put(out, b, b" = float4((");
+    let d = put_expression(out, c, colour, stage, textured);
+    let e = put(out, d, b").rgb, (");
+    let f = put_expression(out, e, alpha, stage, textured);
+    put(out, f, b").a);\n")
+}
+
+pub fn put_line(
+    out: &mut [u8],
+    at: usize,
+    e: Expressions,
+    stage: u8,
+    textured: bool,
+    to_temp: bool,
+) -> usize
+    requires { ⌜ stage < 8 ⌝ }
+    ensures { λ r. ⌜ Wrote (now (out .entry)) at (now (out .exit)) r (lineText stage textured «to_temp» (e .colour) (e .alpha)) ⌝ }
+{
+    let colour = e.colour;
+    let alpha = e.alpha;
+    match alpha {
+        Alpha::FromColour => put_from_colour(out, at, colour, stage, textured, to_temp),
+        Alpha::Kept => put_kept(out, at, colour, stage, textured, to_temp),
+        Alpha::Written(x) => put_written(out, at, colour, x, stage, textured, to_temp),
+    }
+}
