@@ -3,6 +3,7 @@ pub mod decode;
 pub mod keys;
 pub mod line;
 pub mod reading;
+pub mod walks;
 
 use combiners::Expression;
 

@@ -1,0 +1,18 @@
+use native.Mathlib.Omega.{arith}
+use borrow.Author.Needs.{needs}
+use Rattle.cascade.proofs.walks.add_mark.Statement.{statement}
+use Rattle.cascade.proofs.walks.add_mark.Tie as tie
+
+pub add-mark-spec : {M : Type 1} → statement M
+add-mark-spec =
+    tie.close
+    (tie.spec
+    (λ c κs. search needs)
+    (λ c κs. search needs)
+    (λ c κs. search needs)
+    (λ c κs. search needs)
+    (λ c κs. search needs)
+    (λ c κs. search needs)
+    (λ c. search needs)
+    (λ c. omega arith)
+    (λ c. cc))

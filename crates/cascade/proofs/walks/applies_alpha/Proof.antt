@@ -1,0 +1,15 @@
+use Rattle.cascade.specs.Warnings.{appliesAlpha}
+use borrow.Author.Needs.{needs}
+use Rattle.cascade.proofs.walks.applies_alpha.Statement.{statement}
+use Rattle.cascade.proofs.walks.applies_alpha.Tie as tie
+
+pub applies-alpha-spec : {M : Type 1} → statement M
+unfolding appliesAlpha
+applies-alpha-spec =
+    tie.close
+    (tie.spec
+    (λ c κs. search needs)
+    (λ c κs. search needs)
+    (λ c κs. search needs)
+    (λ c κs. search needs)
+    (λ c. cc))

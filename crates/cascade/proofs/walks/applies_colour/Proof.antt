@@ -1,0 +1,14 @@
+use Rattle.cascade.specs.Warnings.{appliesColour}
+use borrow.Author.Needs.{needs}
+use Rattle.cascade.proofs.walks.applies_colour.Statement.{statement}
+use Rattle.cascade.proofs.walks.applies_colour.Tie as tie
+
+pub applies-colour-spec : {M : Type 1} → statement M
+unfolding appliesColour
+applies-colour-spec =
+    tie.close
+    (tie.spec
+    (λ c κs. search needs)
+    (λ c κs. search needs)
+    (λ c κs. search needs)
+    (λ c. cc))

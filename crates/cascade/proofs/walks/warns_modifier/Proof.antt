@@ -1,0 +1,15 @@
+use Rattle.cascade.specs.Warnings.{warns}
+use borrow.Author.Needs.{needs}
+use Rattle.cascade.proofs.walks.warns_modifier.Statement.{statement}
+use Rattle.cascade.proofs.walks.warns_modifier.Tie as tie
+
+pub warns-modifier-spec : {M : Type 1} → statement M
+unfolding warns
+warns-modifier-spec =
+    tie.close
+    (tie.spec
+    (λ c κs. search needs)
+    (λ c κs. search needs)
+    (λ c κs. search needs)
+    (λ c κs. search needs)
+    (λ c. cc))

@@ -1,0 +1,10 @@
+use borrow.Author.Needs.{needs}
+use Rattle.cascade.proofs.walks.without_text.Statement.{statement}
+use Rattle.cascade.proofs.walks.without_text.Tie as tie
+
+pub without-text-spec : {M : Type 1} → statement M
+without-text-spec =
+    tie.close
+    (tie.spec
+    (λ c κs. search needs)
+    (λ c. cc))
