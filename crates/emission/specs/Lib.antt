@@ -2,3 +2,4 @@ pub mod Lookups
 pub mod Output
 pub mod Whole
 pub mod Results
+pub mod Worked
