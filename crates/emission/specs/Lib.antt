@@ -3,3 +3,4 @@ pub mod Output
 pub mod Whole
 pub mod Results
 pub mod Worked
+pub mod Order

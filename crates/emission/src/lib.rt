@@ -1,4 +1,11 @@
 //! Emission from values: a key, a variant and an entry to Metal text in a lent buffer.
+pub mod bits;
+pub mod coordinates;
+pub mod front;
+pub mod lookups;
+pub mod samples;
+pub mod signature;
+
 pub use cascade::Combiner;
 pub use cascade::Key;
 pub use cascade::Stage;

@@ -1,0 +1,14 @@
+use borrow.Author.Needs.{needs}
+use Rattle.emission.specs.Lookups.{samplerName}
+use Rattle.emission.proofs.coordinates.put_sampler_name.Statement.{statement}
+use Rattle.emission.proofs.coordinates.put_sampler_name.Tie as tie
+
+pub put-sampler-name-spec : {M : Type 1} → statement M
+unfolding samplerName
+put-sampler-name-spec =
+    tie.close
+    (tie.spec
+    (λ c. search needs)
+    (λ c κs. search needs)
+    (λ c. search needs)
+    (λ c. c .before .before .put-numbered .ensures))

@@ -1,0 +1,20 @@
+use Rattle.text.proofs.Laws.{_⨾_}
+use borrow.Author.Needs.{needs}
+use Rattle.emission.proofs.lookups.put_texel_start.Statement.{statement}
+use Rattle.emission.proofs.lookups.put_texel_start.Tie as tie
+
+pub put-texel-start-spec : {M : Type 1} → statement M
+put-texel-start-spec =
+    tie.close
+    (tie.spec
+    (λ c. search needs)
+    (λ c κs. search needs)
+    (λ c κs. search needs)
+    (λ c. search needs)
+    (λ c κs. search needs)
+    (λ c. search needs)
+    (λ c.
+    let c₃ = c .before .before in
+    let c₂ = c₃ .before .before .before .before .before in
+    let c₁ = c₂ .before .before .before .before in
+    c₁ .put .ensures ⨾ c₂ .put-texel .ensures ⨾ c₃ .put2 .ensures))

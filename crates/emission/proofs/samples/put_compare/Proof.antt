@@ -1,0 +1,34 @@
+use Rattle.emission.proofs.Laws.{regroup}
+use Rattle.text.proofs.Laws.{_⨾_}
+use borrow.Author.Needs.{needs}
+use Rattle.emission.specs.Lookups.{compareText}
+use Rattle.emission.proofs.samples.put_compare.Statement.{statement}
+use Rattle.emission.proofs.samples.put_compare.Tie as tie
+
+pub put-compare-spec : {M : Type 1} → statement M
+unfolding compareText
+put-compare-spec =
+    tie.close
+    (tie.spec
+    (λ c. search needs)
+    (λ c κs. search needs)
+    (λ c. search needs)
+    (λ c κs. search needs)
+    (λ c. search needs)
+    (λ c κs. search needs)
+    (λ c κs. search needs)
+    (λ c. search needs)
+    (λ c κs. search needs)
+    (λ c κs. search needs)
+    (λ c. search needs)
+    (λ c κs. search needs)
+    (λ c. search needs)
+    (λ c.
+    let c₇ = c .before .before in
+    let c₆ = c₇ .before .before .before .before .before in
+    let c₅ = c₆ .before .before .before .before in
+    let c₄ = c₅ .before .before .before .before .before in
+    let c₃ = c₄ .before .before .before .before in
+    let c₂ = c₃ .before .before .before .before .before in
+    let c₁ = c₂ .before .before .before .before .before in
+    c₁ .put .ensures ⨾ regroup (c₂ .put-call .ensures ⨾ c₃ .put2 .ensures ⨾ c₄ .put-reference .ensures ⨾ c₅ .put3 .ensures ⨾ c₆ .put-level .ensures ⨾ c₇ .put4 .ensures)))

@@ -1,0 +1,28 @@
+use Rattle.emission.proofs.Laws.{regroup}
+use Rattle.text.proofs.Laws.{_⨾_}
+use borrow.Author.Needs.{needs}
+use Rattle.emission.specs.Lookups.{plainText}
+use Rattle.emission.proofs.samples.put_plain.Statement.{statement}
+use Rattle.emission.proofs.samples.put_plain.Tie as tie
+
+pub put-plain-spec : {M : Type 1} → statement M
+unfolding plainText
+put-plain-spec =
+    tie.close
+    (tie.spec
+    (λ c. search needs)
+    (λ c κs. search needs)
+    (λ c. search needs)
+    (λ c κs. search needs)
+    (λ c κs. search needs)
+    (λ c κs. search needs)
+    (λ c. search needs)
+    (λ c κs. search needs)
+    (λ c. search needs)
+    (λ c.
+    let c₅ = c .before .before in
+    let c₄ = c₅ .before .before .before .before .before in
+    let c₃ = c₄ .before .before .before .before in
+    let c₂ = c₃ .before .before .before .before in
+    let c₁ = c₂ .before .before .before .before .before in
+    regroup (c₁ .put-call .ensures ⨾ c₂ .put .ensures ⨾ c₃ .put-uv .ensures ⨾ c₄ .put-bias .ensures ⨾ c₅ .put2 .ensures)))

@@ -1,0 +1,22 @@
+use Rattle.text.proofs.Laws.{_⨾_}
+use borrow.Author.Needs.{needs}
+use Rattle.emission.proofs.samples.put_reference.Statement.{statement}
+use Rattle.emission.proofs.samples.put_reference.Tie as tie
+
+pub put-reference-spec : {M : Type 1} → statement M
+put-reference-spec =
+    tie.close
+    (tie.spec
+    (λ c κs. search needs)
+    (λ c. search needs)
+    (λ c κs. search needs)
+    (λ c κs. search needs)
+    (λ c. search needs)
+    (λ c κs. search needs)
+    (λ c. search needs)
+    (λ c.
+    let c₄ = c .before .before in
+    let c₃ = c₄ .before .before .before .before .before in
+    let c₂ = c₃ .before .before .before .before in
+    let c₁ = c₂ .before .before .before .before .before in
+    c₁ .put-coordinate .ensures ⨾ c₂ .put .ensures ⨾ c₃ .put-coordinate2 .ensures ⨾ c₄ .put2 .ensures))

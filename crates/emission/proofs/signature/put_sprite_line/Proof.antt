@@ -1,0 +1,19 @@
+use Rattle.text.proofs.Laws.{texts, _⨾_, keeps, pick-false, nothing}
+use native.Mathlib.Omega.{arith}
+use borrow.Author.Needs.{needs}
+use Rattle.emission.specs.Whole.{spriteLine}
+use Rattle.emission.proofs.signature.put_sprite_line.Statement.{statement}
+use Rattle.emission.proofs.signature.put_sprite_line.Tie as tie
+
+pub put-sprite-line-spec : {M : Type 1} → statement M
+unfolding spriteLine
+put-sprite-line-spec =
+    tie.close
+    (tie.spec
+    (λ c. search needs)
+    (λ c κs. search needs)
+    (λ c κs. search needs)
+    (λ c. search needs)
+    (λ c κs. search needs)
+    (λ c. search needs)
+    (λ c. c .before .before .before .before .before .before .before .before .before .before .before .put .ensures ⨾ c .before .before .before .before .before .before .before .put-digit .ensures ⨾ c .before .before .put2 .ensures))

@@ -1,0 +1,17 @@
+use Rattle.text.proofs.Laws.{texts, _⨾_, keeps, pick-false, nothing}
+use native.Mathlib.Omega.{arith}
+use borrow.Author.Needs.{needs}
+use Rattle.emission.specs.Whole.{stageInText}
+use Rattle.emission.proofs.signature.put_stage_in.Statement.{statement}
+use Rattle.emission.proofs.signature.put_stage_in.Tie as tie
+
+pub put-stage-in-spec : {M : Type 1} → statement M
+unfolding stageInText
+put-stage-in-spec =
+    tie.close
+    (tie.spec
+    (λ c. search needs)
+    (λ c. search needs)
+    (λ c κs. search needs)
+    (λ c. search needs)
+    (λ c. c .before .before .put-either .ensures))

@@ -1,0 +1,106 @@
+//! Names that end in a stage number, the coordinates of a stage, and where a lookup reads.
+use crate::Coordinate;
+use text::put;
+use text::put_digit;
+use text::put_either;
+ghost use Prim.Native.Nat.{_<_};
+ghost use Rattle.text.specs.Text.{raw, lit, digit, pick, _⊕_};
+ghost use Rattle.text.specs.Buffer.{Wrote};
+ghost use Rattle.emission.specs.Lookups.{textureName, samplerName, coordinateText, quotientText, uvText};
+
+// A word and a stage number.
+fn put_numbered(out: &mut [u8], at: usize, word: &[u8], i: u8) -> usize
+    requires { ⌜ i < 8 ⌝ }
+    ensures { λ r. ⌜ Wrote (now (out .entry)) at (now (out .exit)) r (raw (now (word .entry)) ⊕ digit i) ⌝ }
+{
+    let a = put(out, at, word);
+    put_digit(out, a, i)
+}
+
+pub fn put_texture_name(out: &mut [u8], at: usize, i: u8) -> usize
+    requires { ⌜ i < 8 ⌝ }
+    ensures { λ r. ⌜ Wrote (now (out .entry)) at (now (out .exit)) r (textureName i) ⌝ }
+{
+    put_numbered(out, at, b"s", i)
+}
+
+pub fn put_sampler_name(out: &mut [u8], at: usize, i: u8) -> usize
+    requires { ⌜ i < 8 ⌝ }
+    ensures { λ r. ⌜ Wrote (now (out .entry)) at (now (out .exit)) r (samplerName i) ⌝ }
+{
+    put_numbered(out, at, b"samp", i)
+}
+
+pub fn put_coordinate(out: &mut [u8], at: usize, i: u8, c: Coordinate) -> usize
+    requires { ⌜ i < 8 ⌝ }
+    ensures { λ r. ⌜ Wrote (now (out .entry)) at (now (out .exit)) r (coordinateText i c) ⌝ }
+{
+    match c {
+        Coordinate::Interpolated => put_numbered(out, at, b"in.texcoord", i),
+        Coordinate::Divided => put_numbered(out, at, b"pc", i),
+        Coordinate::Displaced => put_numbered(out, at, b"bc", i),
+        Coordinate::Projected => put_numbered(out, at, b"proj", i),
+    }
+}
+
+// Two of its components, or three.
+fn put_swizzled(out: &mut [u8], at: usize, three: bool, i: u8, c: Coordinate) -> usize
+    requires { ⌜ i < 8 ⌝ }
+    ensures { λ r. ⌜ Wrote (now (out .entry)) at (now (out .exit)) r (coordinateText i c ⊕ lit "." ⊕ pick three (lit "xyz") (lit "xy")) ⌝ }
+{
+    let a = put_coordinate(out, at, i, c);
+    let b = put(out, a, b".");
+    put_either(out, b, three, b"xyz", b"xy")
+}
+
+// A coordinate divided by its w.
+fn put_quotient(out: &mut [u8], at: usize, three: bool, i: u8, c: Coordinate) -> usize
+    requires { ⌜ i < 8 ⌝ }
+    ensures { λ r. ⌜ Wrote (now (out .entry)) at (now (out .exit)) r (quotientText three (coordinateText i c)) ⌝ }
+{
+    let a = put_swizzled(out, at, three, i, c);
+    let b = put(out, a, b" / ");
+    let d = put_coordinate(out, b, i, c);
+    put(out, d, b".w")
+}
+
+// The quotient behind a test of w.
+pub fn put_tested_quotient(
+    out: &mut [u8],
+    at: usize,
+    test: &[u8],
+    three: bool,
+    i: u8,
+    c: Coordinate,
+) -> usize
+    requires { ⌜ i < 8 ⌝ }
+    ensures { λ r. ⌜ Wrote (now (out .entry)) at (now (out .exit)) r
+        (coordinateText i c ⊕ raw (now (test .entry)) ⊕ quotientText three (coordinateText i c)) ⌝ }
+{
+    let a = put_coordinate(out, at, i, c);
+    let b = put(out, a, test);
+    put_quotient(out, b, three, i, c)
+}
+
+// Where to read: two coordinates or three, divided if the stage is projected.
+pub fn put_uv(
+    out: &mut [u8],
+    at: usize,
+    projected: bool,
+    three: bool,
+    i: u8,
+    c: Coordinate,
+) -> usize
+    requires { ⌜ i < 8 ⌝ }
+    ensures { λ r. ⌜ Wrote (now (out .entry)) at (now (out .exit)) r (uvText projected three (coordinateText i c)) ⌝ }
+{
+    if projected {
+        let a = put(out, at, b"(");
+        let b = put_tested_quotient(out, a, b".w != 0.0 ? ", three, i, c);
+        let d = put(out, b, b" : ");
+        let e = put_either(out, d, three, b"float3(0.0)", b"float2(0.0)");
+        put(out, e, b")")
+    } else {
+        put_swizzled(out, at, three, i, c)
+    }
+}

@@ -1,0 +1,111 @@
+//! The parameters of the function, and what its body begins with.
+use crate::TextureType;
+use crate::Variant;
+use crate::coordinates::put_sampler_name;
+use crate::coordinates::put_texture_name;
+use crate::lookups::texture_type_of;
+use text::put;
+use text::put_digit;
+use text::put_either;
+use text::put_when;
+ghost use Prim.Native.Nat.{_<_};
+ghost use Rattle.text.specs.Text.{when, _⊕_};
+ghost use Rattle.text.specs.Buffer.{Wrote};
+ghost use Rattle.emission.specs.Lookups.{typeText};
+ghost use Rattle.emission.specs.Whole.{stageInText, textureParameter, samplerParameter, spriteLine, spriteText, localsText};
+
+pub fn put_stage_in(out: &mut [u8], at: usize, sprite: bool) -> usize
+    ensures { λ r. ⌜ Wrote (now (out .entry)) at (now (out .exit)) r (stageInText sprite) ⌝ }
+{
+    put_either(
+        out,
+        at,
+        sprite,
+        b"(\n    Varyings in_stage [[stage_in]],\n    float2 point_coord [[point_coord]],\n",
+        b"(\n    Varyings in [[stage_in]],\n",
+    )
+}
+
+fn put_type(out: &mut [u8], at: usize, t: TextureType) -> usize
+    ensures { λ r. ⌜ Wrote (now (out .entry)) at (now (out .exit)) r (typeText t) ⌝ }
+{
+    match t {
+        TextureType::Depth => put(out, at, b"depth2d<float>"),
+        TextureType::Volume => put(out, at, b"texture3d<float>"),
+        TextureType::Cube => put(out, at, b"texturecube<float>"),
+        TextureType::Flat => put(out, at, b"texture2d<float>"),
+    }
+}
+
+fn put_texture_parameter(out: &mut [u8], at: usize, v: Variant, i: u8) -> usize
+    requires { ⌜ i < 8 ⌝ }
+    ensures { λ r. ⌜ Wrote (now (out .entry)) at (now (out .exit)) r (textureParameter v i) ⌝ }
+{
+    let t = texture_type_of(v, i);
+    let a = put(out, at, b",\n    ");
+    let b = put_type(out, a, t);
+    let c = put(out, b, b" ");
+    let d = put_texture_name(out, c, i);
+    let e = put(out, d, b" [[texture(");
+    let f = put_digit(out, e, i);
+    put(out, f, b")]]")
+}
+
+fn put_sampler_parameter(out: &mut [u8], at: usize, i: u8) -> usize
+    requires { ⌜ i < 8 ⌝ }
+    ensures { λ r. ⌜ Wrote (now (out .entry)) at (now (out .exit)) r (samplerParameter i) ⌝ }
+{
+    let a = put(out, at, b",\n    sampler ");
+    let b = put_sampler_name(out, a, i);
+    let c = put(out, b, b" [[sampler(");
+    let d = put_digit(out, c, i);
+    put(out, d, b")]]")
+}
+
+fn put_sampler(out: &mut [u8], at: usize, there: bool, v: Variant, i: u8) -> usize
+    requires { ⌜ i < 8 ⌝ }
+    ensures { λ r. ⌜ Wrote (now (out .entry)) at (now (out .exit)) r (when there (textureParameter v i ⊕ samplerParameter i)) ⌝ }
+{
+    if there {
+        let a = put_texture_parameter(out, at, v, i);
+        return put_sampler_parameter(out, a, i);
+    }
+    at
+}
+
+fn put_sprite_line(out: &mut [u8], at: usize, i: u8) -> usize
+    requires { ⌜ i < 8 ⌝ }
+    ensures { λ r. ⌜ Wrote (now (out .entry)) at (now (out .exit)) r (spriteLine i) ⌝ }
+{
+    let a = put(out, at, b"    in.texcoord");
+    let b = put_digit(out, a, i);
+    put(
+        out,
+        b,
+        b" = float4(point_coord.x, point_coord.y, 0.0, 0.0);\n",
+    )
+}
+
+pub fn put_sprite(out: &mut [u8], at: usize, sprite: bool) -> usize
+    ensures { λ r. ⌜ Wrote (now (out .entry)) at (now (out .exit)) r (spriteText sprite) ⌝ }
+{
+    if sprite {
+        let a = put(out, at, b"    Varyings in = in_stage;\n");
+        let b = put_sprite_line(out, a, 0);
+        let c = put_sprite_line(out, b, 1);
+        let d = put_sprite_line(out, c, 2);
+        let e = put_sprite_line(out, d, 3);
+        let f = put_sprite_line(out, e, 4);
+        let g = put_sprite_line(out, f, 5);
+        let h = put_sprite_line(out, g, 6);
+        return put_sprite_line(out, h, 7);
+    }
+    at
+}
+
+pub fn put_locals(out: &mut [u8], at: usize, alive: bool) -> usize
+    ensures { λ r. ⌜ Wrote (now (out .entry)) at (now (out .exit)) r (localsText alive) ⌝ }
+{
+    let a = put(out, at, b"    float4 current = in.color0;\n");
+    put_when(out, a, alive, b"    float4 temp = float4(0.0);\n")
+}
