@@ -1,10 +1,13 @@
 //! Emission from values: a key, a variant and an entry to Metal text in a lent buffer.
 pub mod bits;
+pub mod bump;
 pub mod coordinates;
 pub mod front;
 pub mod lookups;
+pub mod output;
 pub mod samples;
 pub mod signature;
+pub mod stages;
 
 pub use cascade::Combiner;
 pub use cascade::Key;
@@ -81,4 +84,10 @@ pub enum TextureType {
 pub enum Before {
     Ordinary,
     Displacing(u8, bool, bool),
+}
+
+// The place behind what has been written, and the lookups among it.
+pub struct Place {
+    pub at: usize,
+    pub lookups: u8,
 }

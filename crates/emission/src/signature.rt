@@ -1,18 +1,28 @@
 //! The parameters of the function, and what its body begins with.
 use crate::TextureType;
 use crate::Variant;
+use crate::bits::fogged;
+use crate::bits::lod_bias;
+use crate::bits::point_sprite;
+use crate::bits::tested;
 use crate::coordinates::put_sampler_name;
 use crate::coordinates::put_texture_name;
 use crate::lookups::texture_type_of;
+use cascade::Key;
+use cascade::Survey;
+use cascade::keys::textured;
 use text::put;
 use text::put_digit;
 use text::put_either;
 use text::put_when;
 ghost use Prim.Native.Nat.{_<_};
+ghost use mathlib.Core.Path.{_≡_};
 ghost use Rattle.text.specs.Text.{when, _⊕_};
 ghost use Rattle.text.specs.Buffer.{Wrote};
+ghost use Rattle.cascade.specs.Keys.{active, activeCount};
+ghost use Rattle.cascade.specs.Survey.{surveyOf};
 ghost use Rattle.emission.specs.Lookups.{typeText};
-ghost use Rattle.emission.specs.Whole.{stageInText, textureParameter, samplerParameter, spriteLine, spriteText, localsText};
+ghost use Rattle.emission.specs.Whole.{stageInText, textureParameter, samplerParameter, samplersText, parametersText, spriteLine, spriteText, localsText};
 
 pub fn put_stage_in(out: &mut [u8], at: usize, sprite: bool) -> usize
     ensures { λ r. ⌜ Wrote (now (out .entry)) at (now (out .exit)) r (stageInText sprite) ⌝ }
@@ -108,4 +118,33 @@ pub fn put_locals(out: &mut [u8], at: usize, alive: bool) -> usize
 {
     let a = put(out, at, b"    float4 current = in.color0;\n");
     put_when(out, a, alive, b"    float4 temp = float4(0.0);\n")
+}
+
+// A texture and a sampler for each stage of the mask.
+fn put_samplers(out: &mut [u8], at: usize, k: Key, n: usize, v: Variant) -> usize
+    requires { ⌜ n ≡ activeCount (k .stages) ⌝ }
+    ensures { λ r. ⌜ Wrote (now (out .entry)) at (now (out .exit)) r (samplersText v 0 (active (k .stages))) ⌝ }
+{
+    let mut p = at;
+    let mut i = 0;
+    while i < n {
+        let s = k.stages[i];
+        p = put_sampler(out, p, textured(s), v, i as u8);
+        i += 1;
+    }
+    p
+}
+
+pub fn put_parameters(out: &mut [u8], at: usize, k: Key, v: Variant, u: Survey) -> usize
+    requires { ⌜ u ≡ surveyOf (k .stages) ⌝ }
+    ensures { λ r. ⌜ Wrote (now (out .entry)) at (now (out .exit)) r (parametersText v (active (k .stages))) ⌝ }
+{
+    let a = put_stage_in(out, at, point_sprite(v));
+    let b = put(out, a, b"    constant float4 *ps_c [[buffer(15)]]");
+    let c = put_when(out, b, tested(v), b",\n    constant float &alpha_ref [[buffer(14)]]");
+    let d = put_when(out, c, fogged(v), b",\n    constant float4 *fog_data [[buffer(13)]]");
+    let e = put_when(out, d, u.bump_env, b",\n    constant float4 *bump_env [[buffer(12)]]");
+    let f = put_when(out, e, lod_bias(v), b",\n    constant float4 *lod_bias [[buffer(11)]]");
+    let g = put_samplers(out, f, k, u.count, v);
+    put(out, g, b"\n) {\n")
 }

@@ -1,0 +1,15 @@
+use borrow.Author.Needs.{needs}
+use Rattle.emission.specs.Output.{fogDepthText}
+use Rattle.emission.proofs.output.put_fog_depth.Statement.{statement}
+use Rattle.emission.proofs.output.put_fog_depth.Tie as tie
+
+pub put-fog-depth-spec : {M : Type 1} → statement M
+unfolding fogDepthText
+put-fog-depth-spec =
+    tie.close
+    (tie.spec
+    (λ c. search needs)
+    (λ c. search needs)
+    (λ c κs. search needs)
+    (λ c. search needs)
+    (λ c. c .before .before .put-either .ensures))

@@ -1,0 +1,14 @@
+use borrow.Author.Needs.{needs}
+use Rattle.emission.specs.Output.{specularText}
+use Rattle.emission.proofs.output.put_specular.Statement.{statement}
+use Rattle.emission.proofs.output.put_specular.Tie as tie
+
+pub put-specular-spec : {M : Type 1} → statement M
+unfolding specularText
+put-specular-spec =
+    tie.close
+    (tie.spec
+    (λ c. search needs)
+    (λ c κs. search needs)
+    (λ c. search needs)
+    (λ c. c .before .before .put-when .ensures))

@@ -1,0 +1,14 @@
+use borrow.Author.Needs.{needs}
+use Rattle.emission.specs.Output.{srgbText}
+use Rattle.emission.proofs.output.put_srgb.Statement.{statement}
+use Rattle.emission.proofs.output.put_srgb.Tie as tie
+
+pub put-srgb-spec : {M : Type 1} → statement M
+unfolding srgbText
+put-srgb-spec =
+    tie.close
+    (tie.spec
+    (λ c. search needs)
+    (λ c κs. search needs)
+    (λ c. search needs)
+    (λ c. c .before .before .put-when .ensures))

@@ -1,0 +1,153 @@
+//! Specular, fog, alpha test, sRGB and the return.
+use crate::Variant;
+use crate::bits::fog_source_w;
+use crate::bits::sample_mask;
+use crate::bits::srgb_write;
+use crate::bits::tested;
+use text::put;
+use text::put_decimal;
+use text::put_either;
+use text::put_when;
+ghost use Rattle.text.specs.Buffer.{Wrote};
+ghost use Rattle.emission.specs.Output.{specularText, fogDepthText, fogFactorText, fogText, comparisonText, testText, srgbText, returnText, outputText};
+
+fn put_specular(out: &mut [u8], at: usize, on: bool) -> usize
+    ensures { λ r. ⌜ Wrote (now (out .entry)) at (now (out .exit)) r (specularText on) ⌝ }
+{
+    put_when(
+        out,
+        at,
+        on,
+        b"    current = float4(saturate(current.rgb + in.color1.rgb), current.a);\n",
+    )
+}
+
+fn put_fog_depth(out: &mut [u8], at: usize, w: bool) -> usize
+    ensures { λ r. ⌜ Wrote (now (out .entry)) at (now (out .exit)) r (fogDepthText w) ⌝ }
+{
+    put_either(
+        out,
+        at,
+        w,
+        b"    float fog_c = 1.0 / in.position.w;\n",
+        b"    float fog_c = in.fog_z + fog_data[1].w;\n",
+    )
+}
+
+// By the table mode: EXP, EXP2, else linear.
+fn put_fog_factor(out: &mut [u8], at: usize, mode: u8) -> usize
+    ensures { λ r. ⌜ Wrote (now (out .entry)) at (now (out .exit)) r (fogFactorText mode) ⌝ }
+{
+    match mode {
+        1 => put(
+            out,
+            at,
+            b"    float fog_f = saturate(precise::exp(-fog_data[1].z * fog_c));\n",
+        ),
+        2 => {
+            let a = put(out, at, b"    float fog_dz = fog_data[1].z * fog_c;\n");
+            put(
+                out,
+                a,
+                b"    float fog_f = saturate(precise::exp(-fog_dz * fog_dz));\n",
+            )
+        }
+        _ => {
+            let a = put(
+                out,
+                at,
+                b"    float fog_range = fog_data[1].y - fog_data[1].x;\n",
+            );
+            put(
+                out,
+                a,
+                b"    float fog_f = fog_range == 0.0 ? (fog_c < fog_data[1].y ? 1.0 : 0.0) : saturate((fog_data[1].y - fog_c) / fog_range);\n",
+            )
+        }
+    }
+}
+
+// Without a table mode, a fog mode uses the vertex factor.
+fn put_fog(out: &mut [u8], at: usize, v: Variant) -> usize
+    ensures { λ r. ⌜ Wrote (now (out .entry)) at (now (out .exit)) r (fogText v) ⌝ }
+{
+    if v.fog_table_mode == 0 {
+        put_when(
+            out,
+            at,
+            v.fog_mode != 0,
+            b"    oC0 = float4(mix(fog_data[0].rgb, oC0.rgb, saturate(in.fog.x)), oC0.a);\n",
+        )
+    } else {
+        let w = fog_source_w(v);
+        let a = put_fog_depth(out, at, w);
+        let b = put_fog_factor(out, a, v.fog_table_mode);
+        put(
+            out,
+            b,
+            b"    oC0 = float4(mix(fog_data[0].rgb, oC0.rgb, fog_f), oC0.a);\n",
+        )
+    }
+}
+
+// By Microsoft's D3DCMP codes; those above 8 test true.
+fn put_comparison(out: &mut [u8], at: usize, f: u8) -> usize
+    ensures { λ r. ⌜ Wrote (now (out .entry)) at (now (out .exit)) r (comparisonText f) ⌝ }
+{
+    match f {
+        1 => put(out, at, b"false"),
+        2 => put(out, at, b"oC0.a < alpha_ref"),
+        3 => put(out, at, b"oC0.a == alpha_ref"),
+        4 => put(out, at, b"oC0.a <= alpha_ref"),
+        5 => put(out, at, b"oC0.a > alpha_ref"),
+        6 => put(out, at, b"oC0.a != alpha_ref"),
+        7 => put(out, at, b"oC0.a >= alpha_ref"),
+        _ => put(out, at, b"true"),
+    }
+}
+
+fn put_test(out: &mut [u8], at: usize, v: Variant) -> usize
+    ensures { λ r. ⌜ Wrote (now (out .entry)) at (now (out .exit)) r (testText v) ⌝ }
+{
+    if tested(v) {
+        let a = put(out, at, b"    if (!(");
+        let b = put_comparison(out, a, v.alpha_func);
+        return put(out, b, b")) discard_fragment();\n");
+    }
+    at
+}
+
+fn put_srgb(out: &mut [u8], at: usize, on: bool) -> usize
+    ensures { λ r. ⌜ Wrote (now (out .entry)) at (now (out .exit)) r (srgbText on) ⌝ }
+{
+    put_when(
+        out,
+        at,
+        on,
+        b"    oC0.rgb = mtld3d_linear_to_srgb(oC0.rgb);\n",
+    )
+}
+
+fn put_return(out: &mut [u8], at: usize, v: Variant) -> usize
+    ensures { λ r. ⌜ Wrote (now (out .entry)) at (now (out .exit)) r (returnText v) ⌝ }
+{
+    if sample_mask(v) {
+        let a = put(out, at, b"    return FfPsOut { oC0, ");
+        let b = put_decimal(out, a, v.sample_mask);
+        put(out, b, b"u };\n}\n")
+    } else {
+        put(out, at, b"    return oC0;\n}\n")
+    }
+}
+
+pub fn put_output(out: &mut [u8], at: usize, specular: bool, v: Variant) -> usize
+    ensures { λ r. ⌜ Wrote (now (out .entry)) at (now (out .exit)) r (outputText specular v) ⌝ }
+{
+    let srgb = srgb_write(v);
+    let a = put_specular(out, at, specular);
+    let b = put(out, a, b"    float4 oC0 = current;\n");
+    let c = put_fog(out, b, v);
+    let d = put_test(out, c, v);
+    let e = put_srgb(out, d, srgb);
+    put_return(out, e, v)
+}
