@@ -9,21 +9,25 @@ use lib.Dec.{eqb}
 use lib.ListN.{length, drop, getD}
 use Rattle.text.specs.Text.{Text, none, when, _⊕_}
 use Rattle.text.specs.Buffer.{Wrote}
-use Rattle.text.proofs.Laws.{_⨾_, nothing}
+use Rattle.text.proofs.Laws.{_⨾_, nothing, within, keeps}
 use Rattle.combiners.specs.Codes.{bit}
-use Rattle.cascade.specs.Keys.{textured, active, activeCount}
+use Rattle.cascade.specs.Keys.{textured, active, activeCount, bump}
 use Rattle.cascade.specs.Stages.{decode}
-use Rattle.cascade.specs.Reading.{marked, lookupsOf}
-use Rattle.cascade.specs.Survey.{marksOf}
+use Rattle.cascade.specs.Reading.{marked, lookupsOf, luminance}
+use Rattle.cascade.specs.Survey.{marksOf, surveyOf}
 use Rattle.cascade.specs.declared.Stage.{Stage}
+use Rattle.cascade.specs.declared.Survey.{Survey}
+use Rattle.cascade.specs.declared.Expressions.{Expressions}
 use Rattle.cascade.specs.declared.Decoded.{Decoded}
+use Rattle.cascade.specs.declared.Decoded.the-variants.{Writes, Bump}
 use Rattle.cascade.proofs.Active.{here, past}
 use Rattle.emission.specs.Lookups.{lookupOf, beforeOf, sampleText}
+use Rattle.emission.specs.Order.{Precedes}
 use Rattle.emission.specs.Output.{lodBias}
 use Rattle.emission.specs.Whole.{textureParameter, samplerParameter, samplersText, stageLine, stagesText}
 use Rattle.emission.specs.declared.Variant.{Variant}
 use Rattle.emission.specs.declared.Before.{Before}
-use Rattle.emission.specs.declared.Before.the-variants.{Ordinary}
+use Rattle.emission.specs.declared.Before.the-variants.{Ordinary, Displacing}
 
 module _ (v : Variant) (l : List Stage) where
   -- the texture and sampler parameters from stage i on, written, make all of them
@@ -104,3 +108,30 @@ module _ (v : Variant) (projected : ℕ) (alive : Bool) (l : List Stage) (out₀
   stages-end {out} {p} i h r q inv =
       let c = past l i h in
       (inv .rest out p (rw c (nothing out p r q)), omega (arith, rw c at (inv .counted)))
+
+-- what a survey says of the loops' bounds
+pub survey-count : (l : List Stage) (u : Survey) → u ≡ surveyOf l → u .count ≡ activeCount l
+unfolding surveyOf
+survey-count l u e = rw e
+
+pub survey-marks : (l : List Stage) (u : Survey) → u ≡ surveyOf l → u .marks ≡ marksOf (u .live) (active l)
+unfolding surveyOf
+survey-marks l u e = rw e
+
+pub precedes : (i : ℕ) (s : Stage) → Precedes (beforeOf i s) (i + 1)
+unfolding beforeOf
+precedes i s = go (bump s)
+  where
+    go : (b : Bool) → Precedes (cond b (Displacing i (textured s) (luminance s)) Ordinary) (i + 1)
+    go true = omega arith
+    go false = tt
+
+-- the line of a decoded stage: none of a bump stage
+pub no-line : {l out : List ℕ} {q p : ℕ} {t : Text} (alive : Bool) (i : ℕ) (s : Stage) {d : Decoded} → d ≡ decode s → d ≡ Bump → Wrote l q out p t
+    → Wrote out p out p (stageLine alive i s (decode s))
+unfolding stageLine
+no-line {out = out} {p = p} alive i s e f w = rw (sym e ∙ f) (nothing out p (omega (arith, keeps w, w .room)) (within w))
+
+pub a-line : {out out′ : List ℕ} {p p′ : ℕ} (alive : Bool) (i : ℕ) (s : Stage) {d : Decoded} {x : Expressions} → d ≡ decode s → d ≡ Writes x
+    → Wrote out p out′ p′ (stageLine alive i s (Writes x)) → Wrote out p out′ p′ (stageLine alive i s (decode s))
+a-line alive i s e f w = rw (sym e ∙ f) w

@@ -32,7 +32,14 @@ fn put_divided_line(out: &mut [u8], at: usize, i: u8) -> usize
     let a = put(out, at, b"    float4 ");
     let b = put_coordinate(out, a, i, Coordinate::Divided);
     let c = put(out, b, b" = ");
-    let d = put_tested_quotient(out, c, b".w != 0.0 ? float4(", true, i, Coordinate::Interpolated);
+    let d = put_tested_quotient(
+        out,
+        c,
+        b".w != 0.0 ? float4(",
+        true,
+        i,
+        Coordinate::Interpolated,
+    );
     put(out, d, b", 1.0) : float4(0.0, 0.0, 0.0, 1.0);\n")
 }
 
@@ -140,7 +147,16 @@ fn put_luminance(out: &mut [u8], at: usize, lum: bool, tex: bool, i: u8, n: u8) 
 }
 
 // The lookup of stage i behind bump stage n.
-fn put_bumped(out: &mut [u8], at: usize, n: u8, tex: bool, f: Lookup, lod: bool, projected: bool, i: u8) -> usize
+fn put_bumped(
+    out: &mut [u8],
+    at: usize,
+    n: u8,
+    tex: bool,
+    f: Lookup,
+    lod: bool,
+    projected: bool,
+    i: u8,
+) -> usize
     requires { ⌜ i < 8 ⌝ }
     requires { ⌜ n < i ⌝ }
     ensures { λ r. ⌜ Wrote (now (out .entry)) at (now (out .exit)) r
@@ -156,7 +172,15 @@ fn put_bumped(out: &mut [u8], at: usize, n: u8, tex: bool, f: Lookup, lod: bool,
 }
 
 // Everything that the lookup of stage i writes.
-pub fn put_sample(out: &mut [u8], at: usize, before: Before, f: Lookup, lod: bool, projected: bool, i: u8) -> usize
+pub fn put_sample(
+    out: &mut [u8],
+    at: usize,
+    before: Before,
+    f: Lookup,
+    lod: bool,
+    projected: bool,
+    i: u8,
+) -> usize
     requires { ⌜ i < 8 ⌝ }
     requires { ⌜ Precedes before i ⌝ }
     ensures { λ r. ⌜ Wrote (now (out .entry)) at (now (out .exit)) r (sampleText before f lod projected i) ⌝ }

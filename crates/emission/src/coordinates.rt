@@ -65,7 +65,14 @@ fn put_quotient(out: &mut [u8], at: usize, three: bool, i: u8, c: Coordinate) ->
 }
 
 // The quotient behind a test of w.
-pub fn put_tested_quotient(out: &mut [u8], at: usize, test: &[u8], three: bool, i: u8, c: Coordinate) -> usize
+pub fn put_tested_quotient(
+    out: &mut [u8],
+    at: usize,
+    test: &[u8],
+    three: bool,
+    i: u8,
+    c: Coordinate,
+) -> usize
     requires { ⌜ i < 8 ⌝ }
     ensures { λ r. ⌜ Wrote (now (out .entry)) at (now (out .exit)) r
         (coordinateText i c ⊕ raw (now (test .entry)) ⊕ quotientText three (coordinateText i c)) ⌝ }
@@ -76,7 +83,14 @@ pub fn put_tested_quotient(out: &mut [u8], at: usize, test: &[u8], three: bool, 
 }
 
 // Where to read: two coordinates or three, divided if the stage is projected.
-pub fn put_uv(out: &mut [u8], at: usize, projected: bool, three: bool, i: u8, c: Coordinate) -> usize
+pub fn put_uv(
+    out: &mut [u8],
+    at: usize,
+    projected: bool,
+    three: bool,
+    i: u8,
+    c: Coordinate,
+) -> usize
     requires { ⌜ i < 8 ⌝ }
     ensures { λ r. ⌜ Wrote (now (out .entry)) at (now (out .exit)) r (uvText projected three (coordinateText i c)) ⌝ }
 {

@@ -69,7 +69,15 @@ fn put_texel_start(out: &mut [u8], at: usize, i: u8) -> usize
 }
 
 // A texel of depth, with its other components filled where the depth is in red alone.
-fn put_depth_texel(out: &mut [u8], at: usize, red: bool, lod: bool, projected: bool, i: u8, c: Coordinate) -> usize
+fn put_depth_texel(
+    out: &mut [u8],
+    at: usize,
+    red: bool,
+    lod: bool,
+    projected: bool,
+    i: u8,
+    c: Coordinate,
+) -> usize
     requires { ⌜ i < 8 ⌝ }
     ensures { λ r. ⌜ Wrote (now (out .entry)) at (now (out .exit)) r
         (lit "float4(" ⊕ depthText lod projected i (coordinateText i c) ⊕ when red (lit ", 0.0, 0.0, 1.0") ⊕ lit ")") ⌝ }
@@ -80,7 +88,14 @@ fn put_depth_texel(out: &mut [u8], at: usize, red: bool, lod: bool, projected: b
     put(out, d, b")")
 }
 
-fn put_gather_line(out: &mut [u8], at: usize, alpha: bool, projected: bool, i: u8, c: Coordinate) -> usize
+fn put_gather_line(
+    out: &mut [u8],
+    at: usize,
+    alpha: bool,
+    projected: bool,
+    i: u8,
+    c: Coordinate,
+) -> usize
     requires { ⌜ i < 8 ⌝ }
     ensures { λ r. ⌜ Wrote (now (out .entry)) at (now (out .exit)) r (texelLine i (gatherText alpha projected i (coordinateText i c))) ⌝ }
 {
@@ -89,7 +104,15 @@ fn put_gather_line(out: &mut [u8], at: usize, alpha: bool, projected: bool, i: u
     put(out, b, b";\n")
 }
 
-fn put_depth_line(out: &mut [u8], at: usize, red: bool, lod: bool, projected: bool, i: u8, c: Coordinate) -> usize
+fn put_depth_line(
+    out: &mut [u8],
+    at: usize,
+    red: bool,
+    lod: bool,
+    projected: bool,
+    i: u8,
+    c: Coordinate,
+) -> usize
     requires { ⌜ i < 8 ⌝ }
     ensures { λ r. ⌜ Wrote (now (out .entry)) at (now (out .exit)) r (lookupText (Lookup.DepthFetch red) lod projected i c) ⌝ }
 {
@@ -107,7 +130,15 @@ fn put_compare_line(out: &mut [u8], at: usize, lod: bool, i: u8, c: Coordinate) 
     put(out, b, b";\n")
 }
 
-fn put_plain_line(out: &mut [u8], at: usize, three: bool, lod: bool, projected: bool, i: u8, c: Coordinate) -> usize
+fn put_plain_line(
+    out: &mut [u8],
+    at: usize,
+    three: bool,
+    lod: bool,
+    projected: bool,
+    i: u8,
+    c: Coordinate,
+) -> usize
     requires { ⌜ i < 8 ⌝ }
     ensures { λ r. ⌜ Wrote (now (out .entry)) at (now (out .exit)) r (lookupText (Lookup.Plain three) lod projected i c) ⌝ }
 {
@@ -128,7 +159,14 @@ fn put_projected_line(out: &mut [u8], at: usize, i: u8, c: Coordinate) -> usize
     put(out, e, b" : float3(0.0);\n")
 }
 
-fn put_comparison_lines(out: &mut [u8], at: usize, lod: bool, projected: bool, i: u8, c: Coordinate) -> usize
+fn put_comparison_lines(
+    out: &mut [u8],
+    at: usize,
+    lod: bool,
+    projected: bool,
+    i: u8,
+    c: Coordinate,
+) -> usize
     requires { ⌜ i < 8 ⌝ }
     ensures { λ r. ⌜ Wrote (now (out .entry)) at (now (out .exit)) r (lookupText Lookup.DepthCompare lod projected i c) ⌝ }
 {
@@ -141,7 +179,15 @@ fn put_comparison_lines(out: &mut [u8], at: usize, lod: bool, projected: bool, i
 }
 
 // The lookup of stage i at a coordinate.
-pub fn put_lookup(out: &mut [u8], at: usize, f: Lookup, lod: bool, projected: bool, i: u8, c: Coordinate) -> usize
+pub fn put_lookup(
+    out: &mut [u8],
+    at: usize,
+    f: Lookup,
+    lod: bool,
+    projected: bool,
+    i: u8,
+    c: Coordinate,
+) -> usize
     requires { ⌜ i < 8 ⌝ }
     ensures { λ r. ⌜ Wrote (now (out .entry)) at (now (out .exit)) r (lookupText f lod projected i c) ⌝ }
 {

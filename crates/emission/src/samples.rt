@@ -67,7 +67,14 @@ fn put_call(out: &mut [u8], at: usize, i: u8, method: &[u8]) -> usize
     put_sampler_name(out, b, i)
 }
 
-pub fn put_gather(out: &mut [u8], at: usize, alpha: bool, projected: bool, i: u8, c: Coordinate) -> usize
+pub fn put_gather(
+    out: &mut [u8],
+    at: usize,
+    alpha: bool,
+    projected: bool,
+    i: u8,
+    c: Coordinate,
+) -> usize
     requires { ⌜ i < 8 ⌝ }
     ensures { λ r. ⌜ Wrote (now (out .entry)) at (now (out .exit)) r (gatherText alpha projected i (coordinateText i c)) ⌝ }
 {
@@ -80,7 +87,14 @@ pub fn put_gather(out: &mut [u8], at: usize, alpha: bool, projected: bool, i: u8
     put(out, g, b").zxyw")
 }
 
-pub fn put_depth(out: &mut [u8], at: usize, lod: bool, projected: bool, i: u8, c: Coordinate) -> usize
+pub fn put_depth(
+    out: &mut [u8],
+    at: usize,
+    lod: bool,
+    projected: bool,
+    i: u8,
+    c: Coordinate,
+) -> usize
     requires { ⌜ i < 8 ⌝ }
     ensures { λ r. ⌜ Wrote (now (out .entry)) at (now (out .exit)) r (depthText lod projected i (coordinateText i c)) ⌝ }
 {
@@ -117,7 +131,15 @@ pub fn put_compare(out: &mut [u8], at: usize, lod: bool, i: u8, c: Coordinate) -
     put(out, g, b"))")
 }
 
-pub fn put_plain(out: &mut [u8], at: usize, lod: bool, three: bool, projected: bool, i: u8, c: Coordinate) -> usize
+pub fn put_plain(
+    out: &mut [u8],
+    at: usize,
+    lod: bool,
+    three: bool,
+    projected: bool,
+    i: u8,
+    c: Coordinate,
+) -> usize
     requires { ⌜ i < 8 ⌝ }
     ensures { λ r. ⌜ Wrote (now (out .entry)) at (now (out .exit)) r (plainText lod three projected i (coordinateText i c)) ⌝ }
 {

@@ -141,10 +141,30 @@ pub fn put_parameters(out: &mut [u8], at: usize, k: Key, v: Variant, u: Survey) 
 {
     let a = put_stage_in(out, at, point_sprite(v));
     let b = put(out, a, b"    constant float4 *ps_c [[buffer(15)]]");
-    let c = put_when(out, b, tested(v), b",\n    constant float &alpha_ref [[buffer(14)]]");
-    let d = put_when(out, c, fogged(v), b",\n    constant float4 *fog_data [[buffer(13)]]");
-    let e = put_when(out, d, u.bump_env, b",\n    constant float4 *bump_env [[buffer(12)]]");
-    let f = put_when(out, e, lod_bias(v), b",\n    constant float4 *lod_bias [[buffer(11)]]");
+    let c = put_when(
+        out,
+        b,
+        tested(v),
+        b",\n    constant float &alpha_ref [[buffer(14)]]",
+    );
+    let d = put_when(
+        out,
+        c,
+        fogged(v),
+        b",\n    constant float4 *fog_data [[buffer(13)]]",
+    );
+    let e = put_when(
+        out,
+        d,
+        u.bump_env,
+        b",\n    constant float4 *bump_env [[buffer(12)]]",
+    );
+    let f = put_when(
+        out,
+        e,
+        lod_bias(v),
+        b",\n    constant float4 *lod_bias [[buffer(11)]]",
+    );
     let g = put_samplers(out, f, k, u.count, v);
     put(out, g, b"\n) {\n")
 }

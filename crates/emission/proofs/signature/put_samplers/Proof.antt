@@ -50,9 +50,14 @@ loop-again c =
     let b = c .before .before .before .before .before .before .before in
     let a = b .before .before .args in
     let v = b .loop .inv in
-    let w = c .before .before .put-sampler .ensures in
-    (omega arith, v .1, v .2, keeps w ∙ v .3, within w,
-    samplers-turn (a .v) (a .t3 .stages) (b .loop .i) _ (omega arith) (v .5) (rw (c .before .before .before .textured .ensures) at w))
+    let w = c .before .before .put-sampler .ensures in (
+      omega arith,
+      v .1,
+      v .2,
+      keeps w ∙ v .3,
+      within w,
+      samplers-turn (a .v) (a .t3 .stages) (b .loop .i) _ (omega arith) (v .5) (rw (c .before .before .before .textured .ensures) at w),
+    )
 
 same-length : tie.Need-same-length Inv-loop μ-loop
 same-length c = c .before .loop .inv .3
