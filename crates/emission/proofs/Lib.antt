@@ -2,3 +2,4 @@ pub mod Examples
 pub mod Laws
 pub mod Length
 pub mod Loops
+pub mod Names

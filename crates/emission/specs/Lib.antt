@@ -2,5 +2,7 @@ pub mod Lookups
 pub mod Output
 pub mod Whole
 pub mod Results
-pub mod Worked
 pub mod Order
+pub mod Names
+pub mod Demand
+pub mod Worked

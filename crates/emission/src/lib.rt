@@ -1,6 +1,7 @@
 //! Emission from values: a key, a variant and an entry to Metal text in a lent buffer.
 pub mod bits;
 pub mod bump;
+pub mod checks;
 pub mod coordinates;
 pub mod front;
 pub mod lookups;
@@ -8,6 +9,7 @@ pub mod output;
 pub mod samples;
 pub mod signature;
 pub mod stages;
+pub mod whole;
 
 pub use cascade::Combiner;
 pub use cascade::Key;

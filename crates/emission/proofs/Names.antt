@@ -1,0 +1,16 @@
+pub mod Truth
+pub mod Scan
+pub mod Check
+pub mod Frag
+pub mod Words
+pub mod Templates
+pub mod Arguments
+pub mod Operations
+pub mod Rules
+pub mod Lookups
+pub mod Stages
+pub mod Output
+pub mod Signature
+pub mod Counted
+pub mod Whole
+pub mod Examples
