@@ -1,3 +1,4 @@
+pub mod Answers
 pub mod Examples
 pub mod Laws
 pub mod Length

@@ -13,7 +13,7 @@ use Rattle.text.proofs.Laws.{_⨾_, nothing, within, keeps}
 use Rattle.combiners.specs.Codes.{bit}
 use Rattle.cascade.specs.Keys.{textured, active, activeCount, bump}
 use Rattle.cascade.specs.Stages.{decode}
-use Rattle.cascade.specs.Reading.{marked, lookupsOf, luminance}
+use Rattle.cascade.specs.Reading.{live, marked, lookupsOf, luminance}
 use Rattle.cascade.specs.Survey.{marksOf, surveyOf}
 use Rattle.cascade.specs.declared.Stage.{Stage}
 use Rattle.cascade.specs.declared.Survey.{Survey}
@@ -135,3 +135,7 @@ no-line {out = out} {p = p} alive i s e f w = rw (sym e ∙ f) (nothing out p (o
 pub a-line : {out out′ : List ℕ} {p p′ : ℕ} (alive : Bool) (i : ℕ) (s : Stage) {d : Decoded} {x : Expressions} → d ≡ decode s → d ≡ Writes x
     → Wrote out p out′ p′ (stageLine alive i s (Writes x)) → Wrote out p out′ p′ (stageLine alive i s (decode s))
 a-line alive i s e f w = rw (sym e ∙ f) w
+
+pub survey-live : (l : List Stage) (u : Survey) → u ≡ surveyOf l → u .live ≡ live (active l)
+unfolding surveyOf
+survey-live l u e = rw e

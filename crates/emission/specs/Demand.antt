@@ -4,8 +4,11 @@ use mathlib.Core.Bool.{Bool, _&&_, cond}
 use mathlib.Core.Path.{_≡_}
 use mathlib.Core.List.{List, [], _∷_, _++_}
 use lib.Dec.{eqb}
+use lib.ListN.{take}
 use Rattle.emission.specs.Names.{Name, name, Occurrence, declaration, usage, row, occurrences}
 use Rattle.emission.specs.declared.Emitted.{Emitted}
+use Rattle.emission.specs.declared.Answer.{Answer}
+use Rattle.emission.specs.declared.Answer.the-variants.{Text, Refused}
 
 abbrev pub sameName : Name → Name → Bool
 sameName (name k i) (name m j) = eqb k m && eqb i j
@@ -44,3 +47,8 @@ pub record Demand3 (text : List ℕ) (m : Emitted) : Type 0 where
   pub lookupsWritten : texels (occurrences text) ≡ m .lookups
   -- and no more than the mask's bits
   pub lookupsMasked : m .lookups ≤ setBits 8 (m .mask)
+
+-- demand 3 of an answer and the bytes that the buffer then holds: a refusal wrote no text
+abbrev pub Demanded : Answer → List ℕ → Type 0
+Demanded (Refused r) out = Unit {0}
+Demanded (Text m) out = Demand3 (take (m .length) out) m

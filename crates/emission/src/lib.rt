@@ -3,7 +3,7 @@ pub mod bits;
 pub mod bump;
 pub mod checks;
 pub mod coordinates;
-pub mod front;
+pub mod header;
 pub mod lookups;
 pub mod output;
 pub mod samples;
@@ -14,6 +14,14 @@ pub mod whole;
 pub use cascade::Combiner;
 pub use cascade::Key;
 pub use cascade::Stage;
+use cascade::walks::survey;
+ghost use Prim.Native.Nat.{_≤_, _+_};
+ghost use mathlib.Core.Path.{_≡_};
+ghost use mathlib.Core.Bool.{cond};
+ghost use lib.Dec.{leb};
+ghost use lib.ListN.{length};
+ghost use Rattle.emission.specs.Results.{answerOf, bufferAfter, frontOf, textOf};
+ghost use Rattle.emission.specs.Demand.{Demanded};
 
 // The render states beside the key that shape the text. Masks have bit i for stage i.
 pub struct Variant {
@@ -92,4 +100,59 @@ pub enum Before {
 pub struct Place {
     pub at: usize,
     pub lookups: u8,
+}
+
+// An alpha function above 8 warns too.
+fn warning_of(stages: u8, alpha_func: u8) -> u8
+    requires { ⌜ stages ≤ 7 ⌝ }
+    ensures { λ r. ⌜ r ≡ stages + cond (leb 9 «alpha_func») 8 0 ⌝ }
+{
+    if 9 <= alpha_func {
+        return stages + 8;
+    }
+    stages
+}
+
+// Writes the text of a key, a variant and an entry to the front of out; bytes behind it stay. A refusal leaves out as it was.
+pub fn emit(key: Key, variant: Variant, entry: Entry, out: &mut [u8]) -> Answer
+    ensures answer { λ r. ⌜ r ≡ answerOf key variant entry (length (now (out .entry))) ⌝ }
+    ensures buffer { λ r. ⌜ now (out .exit) ≡ bufferAfter r (textOf key variant entry) (now (out .entry)) ⌝ }
+    ensures names { λ r. ⌜ Demanded r (now (out .exit)) ⌝ }
+{
+    if checks::stage_flags_bad(key) {
+        return Answer::Refused(Refusal::StageFlags);
+    }
+    if checks::variant_flags_bad(variant) {
+        return Answer::Refused(Refusal::VariantFlags);
+    }
+    if !checks::entry_good(entry) {
+        return Answer::Refused(Refusal::EntryName);
+    }
+    let u = survey(key);
+    let mut none = [0u8; 0];
+    let measured = whole::put_whole(&mut none, key, variant, entry, u);
+    let needed = measured.at;
+    if out.len() < needed {
+        return Answer::Refused(Refusal::TextTooLong);
+    }
+    let written = whole::put_whole(out, key, variant, entry, u);
+    let warning = warning_of(u.warning, variant.alpha_func);
+    Answer::Text(Emitted {
+        length: written.at,
+        mask: u.mask,
+        rows: u.rows,
+        lookups: written.lookups,
+        warning: warning,
+    })
+}
+
+// The written front of a buffer, for the length that emission answered; empty for a length beyond the buffer.
+pub fn front(buf: &mut [u8], len: usize) -> &mut [u8]
+    ensures { λ r. ⌜ now r ≡ frontOf (now (buf .entry)) len ⌝ }
+{
+    if len <= buf.len() {
+        &mut buf[..len]
+    } else {
+        &mut buf[..0]
+    }
 }

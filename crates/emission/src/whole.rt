@@ -3,7 +3,7 @@ use crate::Entry;
 use crate::Place;
 use crate::Variant;
 use crate::bits::point_sprite;
-use crate::front::put_front;
+use crate::header::put_front;
 use crate::output::put_output;
 use crate::signature::put_locals;
 use crate::signature::put_parameters;

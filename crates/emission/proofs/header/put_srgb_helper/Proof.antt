@@ -2,8 +2,8 @@ use Rattle.text.proofs.Laws.{texts, _⨾_, keeps, pick-false, nothing}
 use native.Mathlib.Omega.{arith}
 use borrow.Author.Needs.{needs}
 use Rattle.emission.specs.Whole.{srgbHelperText}
-use Rattle.emission.proofs.front.put_srgb_helper.Statement.{statement}
-use Rattle.emission.proofs.front.put_srgb_helper.Tie as tie
+use Rattle.emission.proofs.header.put_srgb_helper.Statement.{statement}
+use Rattle.emission.proofs.header.put_srgb_helper.Tie as tie
 
 pub put-srgb-helper-spec : {M : Type 1} → statement M
 unfolding srgbHelperText

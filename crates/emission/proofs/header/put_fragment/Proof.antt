@@ -2,8 +2,8 @@ use Rattle.text.proofs.Laws.{texts, _⨾_, keeps, pick-false, nothing}
 use native.Mathlib.Omega.{arith}
 use borrow.Author.Needs.{needs}
 use Rattle.emission.specs.Whole.{fragmentText}
-use Rattle.emission.proofs.front.put_fragment.Statement.{statement}
-use Rattle.emission.proofs.front.put_fragment.Tie as tie
+use Rattle.emission.proofs.header.put_fragment.Statement.{statement}
+use Rattle.emission.proofs.header.put_fragment.Tie as tie
 
 pub put-fragment-spec : {M : Type 1} → statement M
 unfolding fragmentText

@@ -1,8 +1,8 @@
 use Rattle.text.proofs.Laws.{texts, _⨾_, keeps, pick-false, nothing}
 use native.Mathlib.Omega.{arith}
 use borrow.Author.Needs.{needs}
-use Rattle.emission.proofs.front.put_colours.Statement.{statement}
-use Rattle.emission.proofs.front.put_colours.Tie as tie
+use Rattle.emission.proofs.header.put_colours.Statement.{statement}
+use Rattle.emission.proofs.header.put_colours.Tie as tie
 
 pub put-colours-spec : {M : Type 1} → statement M
 put-colours-spec =

@@ -1,8 +1,8 @@
 use Rattle.text.proofs.Laws.{texts, _⨾_, keeps, pick-false, nothing}
 use native.Mathlib.Omega.{arith}
 use borrow.Author.Needs.{needs}
-use Rattle.emission.proofs.front.put_texcoords.Statement.{statement}
-use Rattle.emission.proofs.front.put_texcoords.Tie as tie
+use Rattle.emission.proofs.header.put_texcoords.Statement.{statement}
+use Rattle.emission.proofs.header.put_texcoords.Tie as tie
 
 pub put-texcoords-spec : {M : Type 1} → statement M
 put-texcoords-spec =
