@@ -1,4 +1,6 @@
 -- Demand 3: what the text of an accepted emission says of its names, and what its result says of the text.
+-- 01: "Lookups in the result are the emitter's own count, one for each lookup that it wrote." That count is `lookupsOf` (Results.antt); here it is
+-- held to the text and to the mask.
 use Prim.Native.Nat.{ℕ, zero, suc, _+_, _/_, _%_, _≤_, _<_}
 use mathlib.Core.Bool.{Bool, _&&_, cond}
 use mathlib.Core.Path.{_≡_}
@@ -20,7 +22,7 @@ declared n (declaration m ∷ l) = cond (sameName n m) 1 0 + declared n l
 declared n (usage m ∷ l) = declared n l
 declared n (row k ∷ l) = declared n l
 
--- one of t0 to t7, the family at place 15
+-- one of t0 to t7: place 15 of the list is `t`
 abbrev pub isTexel : Name → Bool
 isTexel (name k i) = eqb k 15
 

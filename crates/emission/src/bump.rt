@@ -19,9 +19,9 @@ ghost use Rattle.emission.specs.Order.{Precedes};
 fn put_bump_row(out: &mut [u8], at: usize, k: u8) -> usize
     ensures { λ r. ⌜ Wrote (now (out .entry)) at (now (out .exit)) r (bumpRow k) ⌝ }
 {
-    let a = put(out, at, b"bump_env[");
-    let b = put_decimal(out, a, k);
-    put(out, b, b"]")
+    let mut p = put(out, at, b"bump_env[");
+    p = put_decimal(out, p, k);
+    put(out, p, b"]")
 }
 
 // The line that declares a divided coordinate.
@@ -29,18 +29,18 @@ fn put_divided_line(out: &mut [u8], at: usize, i: u8) -> usize
     requires { ⌜ i < 8 ⌝ }
     ensures { λ r. ⌜ Wrote (now (out .entry)) at (now (out .exit)) r (dividedLine i) ⌝ }
 {
-    let a = put(out, at, b"    float4 ");
-    let b = put_coordinate(out, a, i, Coordinate::Divided);
-    let c = put(out, b, b" = ");
-    let d = put_tested_quotient(
+    let mut p = put(out, at, b"    float4 ");
+    p = put_coordinate(out, p, i, Coordinate::Divided);
+    p = put(out, p, b" = ");
+    p = put_tested_quotient(
         out,
-        c,
+        p,
         b".w != 0.0 ? float4(",
         true,
         i,
         Coordinate::Interpolated,
     );
-    put(out, d, b", 1.0) : float4(0.0, 0.0, 0.0, 1.0);\n")
+    put(out, p, b", 1.0) : float4(0.0, 0.0, 0.0, 1.0);\n")
 }
 
 // An entry of stage n's matrix by its texel.
@@ -48,9 +48,9 @@ fn put_product(out: &mut [u8], at: usize, n: u8, entry: &[u8]) -> usize
     requires { ⌜ n < 8 ⌝ }
     ensures { λ r. ⌜ Wrote (now (out .entry)) at (now (out .exit)) r (bumpRow (2 * n) ⊕ raw (now (entry .entry)) ⊕ texelName n) ⌝ }
 {
-    let a = put_bump_row(out, at, 2 * n);
-    let b = put(out, a, entry);
-    put_texel(out, b, n)
+    let mut p = put_bump_row(out, at, 2 * n);
+    p = put(out, p, entry);
+    put_texel(out, p, n)
 }
 
 // One coordinate of the displacement by stage n.
@@ -58,10 +58,10 @@ fn put_offset(out: &mut [u8], at: usize, n: u8, first: &[u8], second: &[u8]) -> 
     requires { ⌜ n < 8 ⌝ }
     ensures { λ r. ⌜ Wrote (now (out .entry)) at (now (out .exit)) r (offsetText n (raw (now (first .entry))) (raw (now (second .entry)))) ⌝ }
 {
-    let a = put_product(out, at, n, first);
-    let b = put(out, a, b".x + ");
-    let c = put_product(out, b, n, second);
-    put(out, c, b".y")
+    let mut p = put_product(out, at, n, first);
+    p = put(out, p, b".x + ");
+    p = put_product(out, p, n, second);
+    put(out, p, b".y")
 }
 
 // A coordinate of stage i moved by stage n's texel.
@@ -70,12 +70,12 @@ fn put_moved(out: &mut [u8], at: usize, i: u8, n: u8, base: Coordinate) -> usize
     requires { ⌜ n < i ⌝ }
     ensures { λ r. ⌜ Wrote (now (out .entry)) at (now (out .exit)) r (movedText n (coordinateText i base)) ⌝ }
 {
-    let a = put_coordinate(out, at, i, base);
-    let b = put(out, a, b".xy + float2(");
-    let c = put_offset(out, b, n, b".x * ", b".z * ");
-    let d = put(out, c, b", ");
-    let e = put_offset(out, d, n, b".y * ", b".w * ");
-    put(out, e, b")")
+    let mut p = put_coordinate(out, at, i, base);
+    p = put(out, p, b".xy + float2(");
+    p = put_offset(out, p, n, b".x * ", b".z * ");
+    p = put(out, p, b", ");
+    p = put_offset(out, p, n, b".y * ", b".w * ");
+    put(out, p, b")")
 }
 
 // The line that declares the coordinate of stage i displaced by stage n.
@@ -84,13 +84,13 @@ fn put_displaced_line(out: &mut [u8], at: usize, i: u8, n: u8, base: Coordinate)
     requires { ⌜ n < i ⌝ }
     ensures { λ r. ⌜ Wrote (now (out .entry)) at (now (out .exit)) r (displacedLine i n base) ⌝ }
 {
-    let a = put(out, at, b"    float4 ");
-    let b = put_coordinate(out, a, i, Coordinate::Displaced);
-    let c = put(out, b, b" = float4(");
-    let d = put_moved(out, c, i, n, base);
-    let e = put(out, d, b", ");
-    let f = put_coordinate(out, e, i, base);
-    put(out, f, b".zw);\n")
+    let mut p = put(out, at, b"    float4 ");
+    p = put_coordinate(out, p, i, Coordinate::Displaced);
+    p = put(out, p, b" = float4(");
+    p = put_moved(out, p, i, n, base);
+    p = put(out, p, b", ");
+    p = put_coordinate(out, p, i, base);
+    put(out, p, b".zw);\n")
 }
 
 fn put_displacement(out: &mut [u8], at: usize, projected: bool, i: u8, n: u8) -> usize
@@ -99,8 +99,8 @@ fn put_displacement(out: &mut [u8], at: usize, projected: bool, i: u8, n: u8) ->
     ensures { λ r. ⌜ Wrote (now (out .entry)) at (now (out .exit)) r (displacementText projected i n) ⌝ }
 {
     if projected {
-        let a = put_divided_line(out, at, i);
-        put_displaced_line(out, a, i, n, Coordinate::Divided)
+        let p = put_divided_line(out, at, i);
+        put_displaced_line(out, p, i, n, Coordinate::Divided)
     } else {
         put_displaced_line(out, at, i, n, Coordinate::Interpolated)
     }
@@ -113,10 +113,10 @@ fn put_scaled(out: &mut [u8], at: usize, tex: bool, n: u8) -> usize
         (when tex (texelName n ⊕ lit ".z * " ⊕ bumpRow (2 * n + 1) ⊕ lit ".x + ")) ⌝ }
 {
     if tex {
-        let a = put_texel(out, at, n);
-        let b = put(out, a, b".z * ");
-        let c = put_bump_row(out, b, 2 * n + 1);
-        return put(out, c, b".x + ");
+        let mut p = put_texel(out, at, n);
+        p = put(out, p, b".z * ");
+        p = put_bump_row(out, p, 2 * n + 1);
+        return put(out, p, b".x + ");
     }
     at
 }
@@ -127,12 +127,12 @@ fn put_luminance_line(out: &mut [u8], at: usize, tex: bool, i: u8, n: u8) -> usi
     requires { ⌜ n < i ⌝ }
     ensures { λ r. ⌜ Wrote (now (out .entry)) at (now (out .exit)) r (luminanceLine tex i n) ⌝ }
 {
-    let a = put(out, at, b"    ");
-    let b = put_texel(out, a, i);
-    let c = put(out, b, b" *= saturate(");
-    let d = put_scaled(out, c, tex, n);
-    let e = put_bump_row(out, d, 2 * n + 1);
-    put(out, e, b".y);\n")
+    let mut p = put(out, at, b"    ");
+    p = put_texel(out, p, i);
+    p = put(out, p, b" *= saturate(");
+    p = put_scaled(out, p, tex, n);
+    p = put_bump_row(out, p, 2 * n + 1);
+    put(out, p, b".y);\n")
 }
 
 fn put_luminance(out: &mut [u8], at: usize, lum: bool, tex: bool, i: u8, n: u8) -> usize
@@ -164,8 +164,8 @@ fn put_bumped(
         (lookupText f lod projected i Coordinate.Interpolated)) ⌝ }
 {
     if tex {
-        let a = put_displacement(out, at, projected, i, n);
-        put_lookup(out, a, f, lod, false, i, Coordinate::Displaced)
+        let p = put_displacement(out, at, projected, i, n);
+        put_lookup(out, p, f, lod, false, i, Coordinate::Displaced)
     } else {
         put_lookup(out, at, f, lod, projected, i, Coordinate::Interpolated)
     }
@@ -188,8 +188,8 @@ pub fn put_sample(
     match before {
         Before::Ordinary => put_lookup(out, at, f, lod, projected, i, Coordinate::Interpolated),
         Before::Displacing(n, tex, lum) => {
-            let a = put_bumped(out, at, n, tex, f, lod, projected, i);
-            put_luminance(out, a, lum, tex, i, n)
+            let p = put_bumped(out, at, n, tex, f, lod, projected, i);
+            put_luminance(out, p, lum, tex, i, n)
         }
     }
 }

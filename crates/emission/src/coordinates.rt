@@ -13,8 +13,8 @@ fn put_numbered(out: &mut [u8], at: usize, word: &[u8], i: u8) -> usize
     requires { ⌜ i < 8 ⌝ }
     ensures { λ r. ⌜ Wrote (now (out .entry)) at (now (out .exit)) r (raw (now (word .entry)) ⊕ digit i) ⌝ }
 {
-    let a = put(out, at, word);
-    put_digit(out, a, i)
+    let p = put(out, at, word);
+    put_digit(out, p, i)
 }
 
 pub fn put_texture_name(out: &mut [u8], at: usize, i: u8) -> usize
@@ -43,14 +43,14 @@ pub fn put_coordinate(out: &mut [u8], at: usize, i: u8, c: Coordinate) -> usize
     }
 }
 
-// Two of its components, or three.
+// Two components of a coordinate, or three.
 fn put_swizzled(out: &mut [u8], at: usize, three: bool, i: u8, c: Coordinate) -> usize
     requires { ⌜ i < 8 ⌝ }
     ensures { λ r. ⌜ Wrote (now (out .entry)) at (now (out .exit)) r (coordinateText i c ⊕ lit "." ⊕ pick three (lit "xyz") (lit "xy")) ⌝ }
 {
-    let a = put_coordinate(out, at, i, c);
-    let b = put(out, a, b".");
-    put_either(out, b, three, b"xyz", b"xy")
+    let mut p = put_coordinate(out, at, i, c);
+    p = put(out, p, b".");
+    put_either(out, p, three, b"xyz", b"xy")
 }
 
 // A coordinate divided by its w.
@@ -58,10 +58,10 @@ fn put_quotient(out: &mut [u8], at: usize, three: bool, i: u8, c: Coordinate) ->
     requires { ⌜ i < 8 ⌝ }
     ensures { λ r. ⌜ Wrote (now (out .entry)) at (now (out .exit)) r (quotientText three (coordinateText i c)) ⌝ }
 {
-    let a = put_swizzled(out, at, three, i, c);
-    let b = put(out, a, b" / ");
-    let d = put_coordinate(out, b, i, c);
-    put(out, d, b".w")
+    let mut p = put_swizzled(out, at, three, i, c);
+    p = put(out, p, b" / ");
+    p = put_coordinate(out, p, i, c);
+    put(out, p, b".w")
 }
 
 // The quotient behind a test of w.
@@ -77,9 +77,9 @@ pub fn put_tested_quotient(
     ensures { λ r. ⌜ Wrote (now (out .entry)) at (now (out .exit)) r
         (coordinateText i c ⊕ raw (now (test .entry)) ⊕ quotientText three (coordinateText i c)) ⌝ }
 {
-    let a = put_coordinate(out, at, i, c);
-    let b = put(out, a, test);
-    put_quotient(out, b, three, i, c)
+    let mut p = put_coordinate(out, at, i, c);
+    p = put(out, p, test);
+    put_quotient(out, p, three, i, c)
 }
 
 // Where to read: two coordinates or three, divided if the stage is projected.
@@ -95,11 +95,11 @@ pub fn put_uv(
     ensures { λ r. ⌜ Wrote (now (out .entry)) at (now (out .exit)) r (uvText projected three (coordinateText i c)) ⌝ }
 {
     if projected {
-        let a = put(out, at, b"(");
-        let b = put_tested_quotient(out, a, b".w != 0.0 ? ", three, i, c);
-        let d = put(out, b, b" : ");
-        let e = put_either(out, d, three, b"float3(0.0)", b"float2(0.0)");
-        put(out, e, b")")
+        let mut p = put(out, at, b"(");
+        p = put_tested_quotient(out, p, b".w != 0.0 ? ", three, i, c);
+        p = put(out, p, b" : ");
+        p = put_either(out, p, three, b"float3(0.0)", b"float2(0.0)");
+        put(out, p, b")")
     } else {
         put_swizzled(out, at, three, i, c)
     }

@@ -63,9 +63,9 @@ fn put_texel_start(out: &mut [u8], at: usize, i: u8) -> usize
     requires { ⌜ i < 8 ⌝ }
     ensures { λ r. ⌜ Wrote (now (out .entry)) at (now (out .exit)) r (lit "    float4 " ⊕ texelName i ⊕ lit " = ") ⌝ }
 {
-    let a = put(out, at, b"    float4 ");
-    let b = put_texel(out, a, i);
-    put(out, b, b" = ")
+    let mut p = put(out, at, b"    float4 ");
+    p = put_texel(out, p, i);
+    put(out, p, b" = ")
 }
 
 // A texel of depth, with its other components filled where the depth is in red alone.
@@ -82,10 +82,10 @@ fn put_depth_texel(
     ensures { λ r. ⌜ Wrote (now (out .entry)) at (now (out .exit)) r
         (lit "float4(" ⊕ depthText lod projected i (coordinateText i c) ⊕ when red (lit ", 0.0, 0.0, 1.0") ⊕ lit ")") ⌝ }
 {
-    let a = put(out, at, b"float4(");
-    let b = put_depth(out, a, lod, projected, i, c);
-    let d = put_when(out, b, red, b", 0.0, 0.0, 1.0");
-    put(out, d, b")")
+    let mut p = put(out, at, b"float4(");
+    p = put_depth(out, p, lod, projected, i, c);
+    p = put_when(out, p, red, b", 0.0, 0.0, 1.0");
+    put(out, p, b")")
 }
 
 fn put_gather_line(
@@ -99,9 +99,9 @@ fn put_gather_line(
     requires { ⌜ i < 8 ⌝ }
     ensures { λ r. ⌜ Wrote (now (out .entry)) at (now (out .exit)) r (texelLine i (gatherText alpha projected i (coordinateText i c))) ⌝ }
 {
-    let a = put_texel_start(out, at, i);
-    let b = put_gather(out, a, alpha, projected, i, c);
-    put(out, b, b";\n")
+    let mut p = put_texel_start(out, at, i);
+    p = put_gather(out, p, alpha, projected, i, c);
+    put(out, p, b";\n")
 }
 
 fn put_depth_line(
@@ -116,18 +116,18 @@ fn put_depth_line(
     requires { ⌜ i < 8 ⌝ }
     ensures { λ r. ⌜ Wrote (now (out .entry)) at (now (out .exit)) r (lookupText (Lookup.DepthFetch red) lod projected i c) ⌝ }
 {
-    let a = put_texel_start(out, at, i);
-    let b = put_depth_texel(out, a, red, lod, projected, i, c);
-    put(out, b, b";\n")
+    let mut p = put_texel_start(out, at, i);
+    p = put_depth_texel(out, p, red, lod, projected, i, c);
+    put(out, p, b";\n")
 }
 
 fn put_compare_line(out: &mut [u8], at: usize, lod: bool, i: u8, c: Coordinate) -> usize
     requires { ⌜ i < 8 ⌝ }
     ensures { λ r. ⌜ Wrote (now (out .entry)) at (now (out .exit)) r (texelLine i (compareText lod i (coordinateText i c))) ⌝ }
 {
-    let a = put_texel_start(out, at, i);
-    let b = put_compare(out, a, lod, i, c);
-    put(out, b, b";\n")
+    let mut p = put_texel_start(out, at, i);
+    p = put_compare(out, p, lod, i, c);
+    put(out, p, b";\n")
 }
 
 fn put_plain_line(
@@ -142,9 +142,9 @@ fn put_plain_line(
     requires { ⌜ i < 8 ⌝ }
     ensures { λ r. ⌜ Wrote (now (out .entry)) at (now (out .exit)) r (lookupText (Lookup.Plain three) lod projected i c) ⌝ }
 {
-    let a = put_texel_start(out, at, i);
-    let b = put_plain(out, a, lod, three, projected, i, c);
-    put(out, b, b";\n")
+    let mut p = put_texel_start(out, at, i);
+    p = put_plain(out, p, lod, three, projected, i, c);
+    put(out, p, b";\n")
 }
 
 // The line that declares a projected coordinate.
@@ -152,11 +152,11 @@ fn put_projected_line(out: &mut [u8], at: usize, i: u8, c: Coordinate) -> usize
     requires { ⌜ i < 8 ⌝ }
     ensures { λ r. ⌜ Wrote (now (out .entry)) at (now (out .exit)) r (projectedLine i (coordinateText i c)) ⌝ }
 {
-    let a = put(out, at, b"    float3 ");
-    let b = put_coordinate(out, a, i, Coordinate::Projected);
-    let d = put(out, b, b" = ");
-    let e = put_tested_quotient(out, d, b".w != 0.0 ? ", true, i, c);
-    put(out, e, b" : float3(0.0);\n")
+    let mut p = put(out, at, b"    float3 ");
+    p = put_coordinate(out, p, i, Coordinate::Projected);
+    p = put(out, p, b" = ");
+    p = put_tested_quotient(out, p, b".w != 0.0 ? ", true, i, c);
+    put(out, p, b" : float3(0.0);\n")
 }
 
 fn put_comparison_lines(
@@ -171,8 +171,8 @@ fn put_comparison_lines(
     ensures { λ r. ⌜ Wrote (now (out .entry)) at (now (out .exit)) r (lookupText Lookup.DepthCompare lod projected i c) ⌝ }
 {
     if projected {
-        let a = put_projected_line(out, at, i, c);
-        put_compare_line(out, a, lod, i, Coordinate::Projected)
+        let p = put_projected_line(out, at, i, c);
+        put_compare_line(out, p, lod, i, Coordinate::Projected)
     } else {
         put_compare_line(out, at, lod, i, c)
     }

@@ -45,22 +45,22 @@ fn put_fog_factor(out: &mut [u8], at: usize, mode: u8) -> usize
             b"    float fog_f = saturate(precise::exp(-fog_data[1].z * fog_c));\n",
         ),
         2 => {
-            let a = put(out, at, b"    float fog_dz = fog_data[1].z * fog_c;\n");
+            let p = put(out, at, b"    float fog_dz = fog_data[1].z * fog_c;\n");
             put(
                 out,
-                a,
+                p,
                 b"    float fog_f = saturate(precise::exp(-fog_dz * fog_dz));\n",
             )
         }
         _ => {
-            let a = put(
+            let p = put(
                 out,
                 at,
                 b"    float fog_range = fog_data[1].y - fog_data[1].x;\n",
             );
             put(
                 out,
-                a,
+                p,
                 b"    float fog_f = fog_range == 0.0 ? (fog_c < fog_data[1].y ? 1.0 : 0.0) : saturate((fog_data[1].y - fog_c) / fog_range);\n",
             )
         }
@@ -80,11 +80,11 @@ fn put_fog(out: &mut [u8], at: usize, v: Variant) -> usize
         )
     } else {
         let w = fog_source_w(v);
-        let a = put_fog_depth(out, at, w);
-        let b = put_fog_factor(out, a, v.fog_table_mode);
+        let mut p = put_fog_depth(out, at, w);
+        p = put_fog_factor(out, p, v.fog_table_mode);
         put(
             out,
-            b,
+            p,
             b"    oC0 = float4(mix(fog_data[0].rgb, oC0.rgb, fog_f), oC0.a);\n",
         )
     }
@@ -110,9 +110,9 @@ fn put_test(out: &mut [u8], at: usize, v: Variant) -> usize
     ensures { λ r. ⌜ Wrote (now (out .entry)) at (now (out .exit)) r (testText v) ⌝ }
 {
     if tested(v) {
-        let a = put(out, at, b"    if (!(");
-        let b = put_comparison(out, a, v.alpha_func);
-        return put(out, b, b")) discard_fragment();\n");
+        let mut p = put(out, at, b"    if (!(");
+        p = put_comparison(out, p, v.alpha_func);
+        return put(out, p, b")) discard_fragment();\n");
     }
     at
 }
@@ -132,9 +132,9 @@ fn put_return(out: &mut [u8], at: usize, v: Variant) -> usize
     ensures { λ r. ⌜ Wrote (now (out .entry)) at (now (out .exit)) r (returnText v) ⌝ }
 {
     if sample_mask(v) {
-        let a = put(out, at, b"    return FfPsOut { oC0, ");
-        let b = put_decimal(out, a, v.sample_mask);
-        put(out, b, b"u };\n}\n")
+        let mut p = put(out, at, b"    return FfPsOut { oC0, ");
+        p = put_decimal(out, p, v.sample_mask);
+        put(out, p, b"u };\n}\n")
     } else {
         put(out, at, b"    return oC0;\n}\n")
     }
@@ -144,10 +144,10 @@ pub fn put_output(out: &mut [u8], at: usize, specular: bool, v: Variant) -> usiz
     ensures { λ r. ⌜ Wrote (now (out .entry)) at (now (out .exit)) r (outputText specular v) ⌝ }
 {
     let srgb = srgb_write(v);
-    let a = put_specular(out, at, specular);
-    let b = put(out, a, b"    float4 oC0 = current;\n");
-    let c = put_fog(out, b, v);
-    let d = put_test(out, c, v);
-    let e = put_srgb(out, d, srgb);
-    put_return(out, e, v)
+    let mut p = put_specular(out, at, specular);
+    p = put(out, p, b"    float4 oC0 = current;\n");
+    p = put_fog(out, p, v);
+    p = put_test(out, p, v);
+    p = put_srgb(out, p, srgb);
+    put_return(out, p, v)
 }

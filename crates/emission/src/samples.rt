@@ -16,9 +16,9 @@ fn put_lod_row(out: &mut [u8], at: usize, i: u8) -> usize
     requires { ⌜ i < 8 ⌝ }
     ensures { λ r. ⌜ Wrote (now (out .entry)) at (now (out .exit)) r (lodRow i) ⌝ }
 {
-    let a = put(out, at, b"lod_bias[");
-    let b = put_digit(out, a, i);
-    put(out, b, b"]")
+    let mut p = put(out, at, b"lod_bias[");
+    p = put_digit(out, p, i);
+    put(out, p, b"]")
 }
 
 fn put_level(out: &mut [u8], at: usize, lod: bool, i: u8) -> usize
@@ -26,9 +26,9 @@ fn put_level(out: &mut [u8], at: usize, lod: bool, i: u8) -> usize
     ensures { λ r. ⌜ Wrote (now (out .entry)) at (now (out .exit)) r (levelText lod i) ⌝ }
 {
     if lod {
-        let a = put(out, at, b"level(max(");
-        let b = put_lod_row(out, a, i);
-        put(out, b, b".w, 0.0))")
+        let mut p = put(out, at, b"level(max(");
+        p = put_lod_row(out, p, i);
+        put(out, p, b".w, 0.0))")
     } else {
         put(out, at, b"level(0)")
     }
@@ -39,9 +39,9 @@ fn put_bias(out: &mut [u8], at: usize, lod: bool, i: u8) -> usize
     ensures { λ r. ⌜ Wrote (now (out .entry)) at (now (out .exit)) r (when lod (lit ", bias(" ⊕ lodRow i ⊕ lit ".x)")) ⌝ }
 {
     if lod {
-        let a = put(out, at, b", bias(");
-        let b = put_lod_row(out, a, i);
-        return put(out, b, b".x)");
+        let mut p = put(out, at, b", bias(");
+        p = put_lod_row(out, p, i);
+        return put(out, p, b".x)");
     }
     at
 }
@@ -50,11 +50,11 @@ fn put_half_texel(out: &mut [u8], at: usize, i: u8) -> usize
     requires { ⌜ i < 8 ⌝ }
     ensures { λ r. ⌜ Wrote (now (out .entry)) at (now (out .exit)) r (halfTexelText i) ⌝ }
 {
-    let a = put(out, at, b"0.5 / float2(");
-    let b = put_texture_name(out, a, i);
-    let c = put(out, b, b".get_width(), ");
-    let d = put_texture_name(out, c, i);
-    put(out, d, b".get_height())")
+    let mut p = put(out, at, b"0.5 / float2(");
+    p = put_texture_name(out, p, i);
+    p = put(out, p, b".get_width(), ");
+    p = put_texture_name(out, p, i);
+    put(out, p, b".get_height())")
 }
 
 // The texture, a method of it and the sampler.
@@ -62,9 +62,9 @@ fn put_call(out: &mut [u8], at: usize, i: u8, method: &[u8]) -> usize
     requires { ⌜ i < 8 ⌝ }
     ensures { λ r. ⌜ Wrote (now (out .entry)) at (now (out .exit)) r (textureName i ⊕ raw (now (method .entry)) ⊕ samplerName i) ⌝ }
 {
-    let a = put_texture_name(out, at, i);
-    let b = put(out, a, method);
-    put_sampler_name(out, b, i)
+    let mut p = put_texture_name(out, at, i);
+    p = put(out, p, method);
+    put_sampler_name(out, p, i)
 }
 
 pub fn put_gather(
@@ -78,13 +78,13 @@ pub fn put_gather(
     requires { ⌜ i < 8 ⌝ }
     ensures { λ r. ⌜ Wrote (now (out .entry)) at (now (out .exit)) r (gatherText alpha projected i (coordinateText i c)) ⌝ }
 {
-    let a = put_call(out, at, i, b".gather(");
-    let b = put(out, a, b", (");
-    let d = put_uv(out, b, projected, false, i, c);
-    let e = put(out, d, b") + ");
-    let f = put_half_texel(out, e, i);
-    let g = put_when(out, f, alpha, b", int2(0), component::w");
-    put(out, g, b").zxyw")
+    let mut p = put_call(out, at, i, b".gather(");
+    p = put(out, p, b", (");
+    p = put_uv(out, p, projected, false, i, c);
+    p = put(out, p, b") + ");
+    p = put_half_texel(out, p, i);
+    p = put_when(out, p, alpha, b", int2(0), component::w");
+    put(out, p, b").zxyw")
 }
 
 pub fn put_depth(
@@ -98,12 +98,12 @@ pub fn put_depth(
     requires { ⌜ i < 8 ⌝ }
     ensures { λ r. ⌜ Wrote (now (out .entry)) at (now (out .exit)) r (depthText lod projected i (coordinateText i c)) ⌝ }
 {
-    let a = put_call(out, at, i, b".sample(");
-    let b = put(out, a, b", ");
-    let d = put_uv(out, b, projected, false, i, c);
-    let e = put(out, d, b", ");
-    let f = put_level(out, e, lod, i);
-    put(out, f, b")")
+    let mut p = put_call(out, at, i, b".sample(");
+    p = put(out, p, b", ");
+    p = put_uv(out, p, projected, false, i, c);
+    p = put(out, p, b", ");
+    p = put_level(out, p, lod, i);
+    put(out, p, b")")
 }
 
 // A coordinate, and the depth to compare with.
@@ -112,23 +112,23 @@ fn put_reference(out: &mut [u8], at: usize, i: u8, c: Coordinate) -> usize
     ensures { λ r. ⌜ Wrote (now (out .entry)) at (now (out .exit)) r
         (coordinateText i c ⊕ lit ".xy, saturate(" ⊕ coordinateText i c ⊕ lit ".z)") ⌝ }
 {
-    let a = put_coordinate(out, at, i, c);
-    let b = put(out, a, b".xy, saturate(");
-    let d = put_coordinate(out, b, i, c);
-    put(out, d, b".z)")
+    let mut p = put_coordinate(out, at, i, c);
+    p = put(out, p, b".xy, saturate(");
+    p = put_coordinate(out, p, i, c);
+    put(out, p, b".z)")
 }
 
 pub fn put_compare(out: &mut [u8], at: usize, lod: bool, i: u8, c: Coordinate) -> usize
     requires { ⌜ i < 8 ⌝ }
     ensures { λ r. ⌜ Wrote (now (out .entry)) at (now (out .exit)) r (compareText lod i (coordinateText i c)) ⌝ }
 {
-    let a = put(out, at, b"float4(");
-    let b = put_call(out, a, i, b".sample_compare(");
-    let d = put(out, b, b", ");
-    let e = put_reference(out, d, i, c);
-    let f = put(out, e, b", ");
-    let g = put_level(out, f, lod, i);
-    put(out, g, b"))")
+    let mut p = put(out, at, b"float4(");
+    p = put_call(out, p, i, b".sample_compare(");
+    p = put(out, p, b", ");
+    p = put_reference(out, p, i, c);
+    p = put(out, p, b", ");
+    p = put_level(out, p, lod, i);
+    put(out, p, b"))")
 }
 
 pub fn put_plain(
@@ -143,9 +143,9 @@ pub fn put_plain(
     requires { ⌜ i < 8 ⌝ }
     ensures { λ r. ⌜ Wrote (now (out .entry)) at (now (out .exit)) r (plainText lod three projected i (coordinateText i c)) ⌝ }
 {
-    let a = put_call(out, at, i, b".sample(");
-    let b = put(out, a, b", ");
-    let d = put_uv(out, b, projected, three, i, c);
-    let e = put_bias(out, d, lod, i);
-    put(out, e, b")")
+    let mut p = put_call(out, at, i, b".sample(");
+    p = put(out, p, b", ");
+    p = put_uv(out, p, projected, three, i, c);
+    p = put_bias(out, p, lod, i);
+    put(out, p, b")")
 }

@@ -48,7 +48,7 @@ pub add-self : (n : Name) (has : Name → Bool) → T (add n has n)
 add-self (name k i) has = inl (eqb k k && eqb i i) _ (both (eqb k k) (eqb i i) (eqb-refl k) (eqb-refl i))
 
 -- what is known is so, of the declarations that were counted
-record True (A : Aim) (count : Name → ℕ) (K : Known) : Type 0 where
+record Sound (A : Aim) (count : Name → ℕ) (K : Known) : Type 0 where
   ones : (n : Name) → T (K .has n) → count n ≡ 1
   nones : (n : Name) → K .next ≤ A .rank n → count n ≡ 0
   most : (n : Name) → count n ≤ 1
@@ -62,9 +62,9 @@ record Reached (A : Aim) (K : Known) (count : Name → ℕ) (a l : List Occurren
   seen : known .seen ≡ K .seen + texels a
 
 module _ (A : Aim) where
-  declare-true : (K : Known) (count : Name → ℕ) (m : Name) → K .next ≤ A .rank m → True A count K
-      → True A (λ n. cond (sameName n m) 1 0 + count n) (declaring A m K)
-  declare-true K count m p t =
+  declare-sound : (K : Known) (count : Name → ℕ) (m : Name) → K .next ≤ A .rank m → Sound A count K
+      → Sound A (λ n. cond (sameName n m) 1 0 + count n) (declaring A m K)
+  declare-sound K count m p t =
       record {
         ones = λ n h. ones′ n (sameName n m) (same→eq n m) h;
         nones = λ n h. nones′ n (sameName n m) (same→eq n m) h;
@@ -86,10 +86,17 @@ module _ (A : Aim) where
       most′ n true e = omega (arith, fresh n (e tt))
       most′ n false e = omega (arith, t .most n)
 
-  reach : (a l : List Occurrence) (K : Known) (count : Name → ℕ) → True A count K → Holds A K (a ++ l) → Reached A K count a l
-  reach [] l K count t h = record { known = K; holds = h; ones = λ n x. omega (arith, t .ones n x); most = λ n. omega (arith, t .most n); seen = omega arith }
+  reach : (a l : List Occurrence) (K : Known) (count : Name → ℕ) → Sound A count K → Holds A K (a ++ l) → Reached A K count a l
+  reach [] l K count t h =
+      record {
+        known = K;
+        holds = h;
+        ones = λ n x. omega (arith, t .ones n x);
+        most = λ n. omega (arith, t .most n);
+        seen = omega arith;
+      }
   reach (declaration m ∷ a) l K count t h =
-      let g = reach a l (declaring A m K) _ (declare-true K count m (h .0) t) (h .1) in
+      let g = reach a l (declaring A m K) _ (declare-sound K count m (h .0) t) (h .1) in
       record {
         known = g .known;
         holds = g .holds;
@@ -110,7 +117,8 @@ module _ (A : Aim) where
 module _ (A : Aim) (l : List Occurrence) (h : Holds A nothing l) where
   reached : (a c : List Occurrence) → l ≡ a ++ c → Reached A nothing (λ n. 0) a c
   reached a c e =
-      reach A a c nothing (λ n. 0) (record { ones = λ n t. absurd t; nones = λ n p. refl; most = λ n. omega arith }) (subst (Holds A nothing) e h)
+      let sound : Sound A (λ n. 0) nothing = record { ones = λ n t. absurd t; nones = λ n p. refl; most = λ n. omega arith } in
+      reach A a c nothing (λ n. 0) sound (subst (Holds A nothing) e h)
 
   pub checked-before : (n : Name) (a c : List Occurrence) → l ≡ a ++ (usage n ∷ c) → declared n a ≡ 1
   checked-before n a c e = let g = reached a (usage n ∷ c) e in omega (arith, g .ones n (g .holds .0))

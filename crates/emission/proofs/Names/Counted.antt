@@ -35,7 +35,11 @@ fragment-found false r = refl
 front-passed : (v : Variant) (r : List ℕ) → counted (flat (frontText v) ++ r) ≡ fromOpening r
 unfolding frontText
 front-passed v r =
-    rw (append-assoc (flat (varyingsText (flatShade v))) _ r, append-assoc (flat (srgbHelperText (srgbWrite v))) (flat (fragmentText (sampleMask v))) r)
+    rw (
+      append-assoc (flat (varyingsText (flatShade v))) _ r,
+      append-assoc (flat (srgbHelperText (srgbWrite v)))
+          (flat (fragmentText (sampleMask v))) r,
+    )
     (varyings-passed (flatShade v) _ ∙ helper-passed (srgbWrite v) _ ∙ fragment-found (sampleMask v) r)
 
 -- nor is a bracket part of the entry
@@ -53,7 +57,8 @@ all-letters (c ∷ w) t = both (continuesName c) _ (and-fst (continuesName c) _ 
 
 name-letters : (w : List ℕ) → T (isName w) → T (letters w)
 name-letters [] t = absurd t
-name-letters (c ∷ w) t = both (continuesName c) _ (inl (startsName c) _ (and-fst (startsName c) _ t)) (all-letters w (and-snd (startsName c) _ t))
+name-letters (c ∷ w) t =
+    both (continuesName c) _ (inl (startsName c) _ (and-fst (startsName c) _ t)) (all-letters w (and-snd (startsName c) _ t))
 
 good-letters : (e : Entry) → T (entryGood e) → T (letters (nameOf e))
 unfolding entryGood
@@ -67,4 +72,6 @@ opening false x y = refl
 pub counted-body : (k : Key) (v : Variant) (e : Entry) → T (entryGood e) → counted (textOf k v e) ≡ flat (bodyText k v (active (k .stages)))
 unfolding wholeText bodyText parametersText
 counted-body k v e t =
-    front-passed v (nameOf e ++ flat (bodyText k v (active (k .stages)))) ∙ entry-passed (nameOf e) (flat (bodyText k v (active (k .stages)))) (good-letters e t) ∙ opening (pointSprite v) _ _
+    front-passed v (nameOf e ++ flat (bodyText k v (active (k .stages))))
+    ∙ entry-passed (nameOf e) (flat (bodyText k v (active (k .stages)))) (good-letters e t)
+    ∙ opening (pointSprite v) _ _

@@ -15,7 +15,11 @@ table =
     ∷ ("float *fog_data, float4 &fog_c, float4 * fog_f", usage (the "fog_data") ∷ usage (the "fog_c") ∷ usage (the "fog_f") ∷ [])
     ∷ ("depth2d<float> s0, depth2d<half> s1, sampler samp0", declaration (the "s0") ∷ usage (the "s1") ∷ declaration (the "samp0") ∷ [])
     ∷ ("ps_c[3].aaaa + ps_c[12]", usage (the "ps_c") ∷ row 3 ∷ usage (the "ps_c") ∷ row 12 ∷ [])
-    ∷ ("ps_c [3] + ps_c[i] + ps_c[3 ] + float4 ps_c[3]", usage (the "ps_c") ∷ usage (the "ps_c") ∷ usage (the "ps_c") ∷ declaration (the "ps_c") ∷ [])
+    ∷ (
+      "ps_c [3] + ps_c[i] + ps_c[3 ] + float4 ps_c[3]",
+      usage (the "ps_c") ∷ usage (the "ps_c") ∷ usage (the "ps_c") ∷ declaration
+          (the "ps_c") ∷ [],
+    )
     ∷ ("t8 t07 t_7 7t7 T7 pc7", usage (the "pc7") ∷ [])
     ∷ []
 

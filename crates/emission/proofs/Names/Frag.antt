@@ -1,6 +1,6 @@
 -- How the check goes through a text part by part.
 use Prim.Native.Nat.{ℕ, suc, _≤_}
-use mathlib.Core.Path.{_≡_, ap, sym, _∙_, subst}
+use mathlib.Core.Path.{_≡_, ap, sym, _∙_}
 use mathlib.Core.List.{List, [], _∷_, _++_, append-assoc}
 use mathlib.Core.Bool.{Bool, true, false, not, _||_, cond}
 use native.Mathlib.Omega.{arith}
@@ -29,11 +29,7 @@ pub literal : {A : Aim} {K K′ : Known} {b b′ : List Token} {x : List ℕ}
     → ((r : List ℕ) → Holds A K′ (scan b′ (tokens r)) → Holds A K (scan b (tokens (x ++ r)))) → Reads A K b x K′ b′
 literal h = record { on = h }
 
--- a literal text with no occurrence
-pub quiet : {A : Aim} {K : Known} {b b′ : List Token} {x : List ℕ} → ((r : List ℕ) → scan b (tokens (x ++ r)) ≡ scan b′ (tokens r))
-    → Reads A K b x K b′
-quiet {A} {K} e = literal (λ r k. subst (Holds A K) (sym (e r)) k)
-
+-- one part behind another
 pub append : (A : Aim) (K : Known) (b : List Token) (x y r : List ℕ) → Holds A K (scan b (tokens (x ++ (y ++ r))))
     → Holds A K (scan b (tokens ((x ++ y) ++ r)))
 append A K b x y r h = rw (append-assoc x y r) h
@@ -52,9 +48,6 @@ pub record Frag (A : Aim) (K : Known) (t : Text) : Type 0 where
   pub reads : (K′ : Known) → Has K K′ → (r : List ℕ) → T (breaks r) → Holds A K′ (scan [] (tokens r))
       → Holds A K′ (scan [] (tokens (flat t ++ r)))
 
-pub lift : {A : Aim} {K K′ : Known} {t : Text} → Has K K′ → Frag A K t → Frag A K′ t
-lift u f = record { reads = λ K″ v. f .reads K″ (λ n t. v n (u n t)) }
-
 -- a fragment that ends in a mark
 pub closed : {A : Aim} {K : Known} {t : Text} → ((K′ : Known) → Has K K′ → Reads A K′ [] (flat t) K′ []) → Frag A K t
 closed h = record { reads = λ K′ u r t. h K′ u .on r }
@@ -62,7 +55,8 @@ closed h = record { reads = λ K′ u r t. h K′ u .on r }
 -- a fragment, and what follows it
 pub arg : {A : Aim} {K K′ : Known} {b : List Token} {t : Text} {y : List ℕ} {c : ℕ} → Frag A K t → T (not (continuesName c))
     → Reads A K [] (c ∷ y) K′ b → Reads A K [] (flat t ++ (c ∷ y)) K′ b
-arg {A} {K} {t = t} {y = y} {c = c} f m h = literal (λ r k. append A K [] (flat t) (c ∷ y) r (f .reads K (λ n s. s) ((c ∷ y) ++ r) m (h .on r k)))
+arg {A} {K} {t = t} {y = y} {c = c} f m h =
+    literal (λ r k. append A K [] (flat t) (c ∷ y) r (f .reads K (λ n s. s) ((c ∷ y) ++ r) m (h .on r k)))
 
 -- a mark stands first
 abbrev pub opens : List ℕ → Bool
@@ -76,7 +70,10 @@ opens-append (c ∷ x) r t = t
 -- a fragment, and another that a mark begins
 pub followed : {A : Aim} {K : Known} {s t : Text} → Frag A K s → Frag A K t → T (opens (flat t)) → Frag A K (s ⊕ t)
 followed {A} {s = s} {t = t} f g m =
-    record { reads = λ K′ u r e k. append A K′ [] (flat s) (flat t) r (f .reads K′ u (flat t ++ r) (opens-append (flat t) r m) (g .reads K′ u r e k)) }
+    record {
+      reads = λ K′ u r e k.
+          append A K′ [] (flat s) (flat t) r (f .reads K′ u (flat t ++ r) (opens-append (flat t) r m) (g .reads K′ u r e k));
+    }
 
 -- one of two
 pub pick-frag : {A : Aim} {K : Known} {b : Bool} {s t : Text} → (T b → Frag A K s) → (T (not b) → Frag A K t) → Frag A K (pick b s t)
@@ -101,7 +98,12 @@ pub forget : (A : Aim) (l : List Occurrence) (K K′ : Known) → Under K K′ �
 forget A [] K K′ u h = sym (u .same) ∙ h
 forget A (declaration m ∷ l) K K′ u h = (
   omega (arith, h .0, u .lower),
-  forget A l (declaring A m K) (declaring A m K′) (record { more = declaring-more A m K K′ (u .more); lower = omega arith; same = ap (λ (s : ℕ). cond (isTexel m) (suc s) s) (u .same) })
+  forget A l (declaring A m K) (declaring A m K′) (record {
+    more =
+        declaring-more A m K K′ (u .more);
+    lower = omega arith;
+    same = ap (λ (s : ℕ). cond (isTexel m) (suc s) s) (u .same);
+  })
       (h .1),
 )
 forget A (usage m ∷ l) K K′ u h = (u .more m (h .0), forget A l K K′ u (h .1))
@@ -112,4 +114,5 @@ loses {A} {K₁ = K₁} {K₂ = K₂} {b′ = b′} u f = literal (λ r k. f .on
 
 -- a name that was declared before another, and is no longer needed
 pub forgotten : (A : Aim) (m n : Name) (K : Known) → T (not (isTexel m)) → Under (declaring A n K) (declaring A n (declaring A m K))
-forgotten A m n K t = record { more = declaring-more A n K (declaring A m K) (has-more A m K); lower = omega arith; same = rw (false-of (isTexel m) t) }
+forgotten A m n K t =
+    record { more = declaring-more A n K (declaring A m K) (has-more A m K); lower = omega arith; same = rw (false-of (isTexel m) t) }

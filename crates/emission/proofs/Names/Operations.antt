@@ -12,7 +12,7 @@ use Rattle.text.specs.Text.{Text, none, bytes}
 use Rattle.text.specs.Format.{Piece, words, slot, cut, Slot, _≔_, same, pieceText, fill, isSlot, mentions}
 use Rattle.combiners.specs.Codes.{blendFactorAlpha}
 use Rattle.combiners.specs.Arguments.{texelName}
-use Rattle.combiners.specs.Combiners.{opCodes, look, opOf, template, opText, keepsFirst, keepsSecond, readsOwnTexel}
+use Rattle.combiners.specs.Combiners.{opCodes, look, opOf, template, opText, hasText, keepsFirst, keepsSecond, readsOwnTexel}
 use Rattle.combiners.specs.declared.Op.{Op}
 use Rattle.combiners.specs.declared.Op.the-variants.{Other}
 use Rattle.emission.specs.Names.{Name, tokens, Occurrence, declaration, usage, row}
@@ -46,11 +46,6 @@ abbrev commonPieces : Bool → List Piece → Bool
 commonPieces factor [] = true
 commonPieces factor (p ∷ r) = commonPiece factor p && commonPieces factor r
 
--- The template of a code mentions the arguments that the code keeps, and the stage's texel where the code reads it.
-abbrev mentionsKept : Bool → ℕ → List Piece → Bool
-mentionsKept tex c ps =
-    Bool·beq (mentions "a" ps) (keepsFirst tex c) && (Bool·beq (mentions "b" ps) (keepsSecond tex c) && Bool·beq (mentions "t" ps) (readsOwnTexel tex c))
-
 abbrev harmless : List Slot → ℕ → List Piece → Bool
 harmless f c ps = fits ps (fill f ps) && commonPieces (eqb c blendFactorAlpha) ps
 
@@ -64,7 +59,8 @@ far c k h l = ne-eqb c k (λ e. omega arith)
 
 look-far : (r : List (ℕ × Op)) (c : ℕ) → T (allBelow r) → 25 ≤ c → look r c ≡ Other
 look-far [] c t h = refl
-look-far (e ∷ r) c t h = rw (far c (e .0) h (leb→le (suc (e .0)) 25 (and-fst (leb (suc (e .0)) 25) _ t))) (look-far r c (and-snd (leb (suc (e .0)) 25) _ t) h)
+look-far (e ∷ r) c t h =
+    rw (far c (e .0) h (leb→le (suc (e .0)) 25 (and-fst (leb (suc (e .0)) 25) _ t))) (look-far r c (and-snd (leb (suc (e .0)) 25) _ t) h)
 
 every-code : (q : ℕ → Op → Bool) → T (below 25 (λ c. q c (opOf c))) → ((c : ℕ) → 25 ≤ c → T (q c Other)) → (c : ℕ) → T (q c (opOf c))
 every-code q t d c = go (leb 25 c) (leb→le 25 c) (nleb→lt 25 c)
@@ -73,16 +69,45 @@ every-code q t d c = go (leb 25 c) (leb→le 25 c) (nleb→lt 25 c)
     go true h l = rw (look-far opCodes c tt (h tt)) (d c (h tt))
     go false h l = below-at (λ c. q c (opOf c)) 25 c t (l tt)
 
+-- The template of a code mentions the arguments that the code keeps, and the stage's texel where the code reads it.
+abbrev mentionsKept : Bool → ℕ → List Piece → Bool
+mentionsKept tex c ps =
+    Bool·beq (mentions "a" ps) (keepsFirst tex c)
+    && (Bool·beq (mentions "b" ps) (keepsSecond tex c) && Bool·beq (mentions "t" ps) (readsOwnTexel tex c))
+
 far-kept : (tex : Bool) (c : ℕ) → 25 ≤ c → T (mentionsKept tex c (cut (template Other tex)))
 far-kept tex c h =
     let a : keepsFirst tex c ≡ true = rw (far c 3 h (lit< tt), far c 13 h (lit< tt)) in
-    let b : keepsSecond tex c ≡ false = rw (lt-leb c 16 (omega arith), lt-leb c 21 (omega arith), far c 24 h (lit< tt), and-false (leb 2 c), and-false (leb 18 c)) in
+    let no-text : hasText c ≡ false =
+    rw (lt-leb c 16 (omega arith), lt-leb c 21 (omega arith), far c 24 h (lit< tt), and-false (leb 2 c), and-false (leb 18 c)) in
     let t : readsOwnTexel tex c ≡ false = rw (far c 13 h (lit< tt), far c 15 h (lit< tt), and-false tex) in
-    rw (a, b, t) tt
+    rw (a, no-text, t) tt
 
-pub mentions-kept : (tex : Bool) (c : ℕ) → T (mentionsKept tex c (cut (template (opOf c) tex)))
-mentions-kept true = every-code (λ c o. mentionsKept true c (cut (template o true))) tt (far-kept true)
-mentions-kept false = every-code (λ c o. mentionsKept false c (cut (template o false))) tt (far-kept false)
+every-kept : (tex : Bool) (c : ℕ) → T (mentionsKept tex c (cut (template (opOf c) tex)))
+every-kept true = every-code (λ c o. mentionsKept true c (cut (template o true))) tt (far-kept true)
+every-kept false = every-code (λ c o. mentionsKept false c (cut (template o false))) tt (far-kept false)
+
+beq→eq : (a b : Bool) → T (Bool·beq a b) → a ≡ b
+beq→eq true true t = refl
+beq→eq true false t = absurd t
+beq→eq false true t = absurd t
+beq→eq false false t = refl
+
+pub record MentionsKept (tex : Bool) (c : ℕ) : Type 0 where
+  pub first : mentions "a" (cut (template (opOf c) tex)) ≡ keepsFirst tex c
+  pub second : mentions "b" (cut (template (opOf c) tex)) ≡ keepsSecond tex c
+  pub texture : mentions "t" (cut (template (opOf c) tex)) ≡ readsOwnTexel tex c
+
+pub mentions-kept : (tex : Bool) (c : ℕ) → MentionsKept tex c
+mentions-kept tex c =
+    let ps = cut (template (opOf c) tex) in
+    let m = every-kept tex c in
+    let n = and-snd (Bool·beq (mentions "a" ps) (keepsFirst tex c)) _ m in
+    record {
+      first = beq→eq _ _ (and-fst (Bool·beq (mentions "a" ps) (keepsFirst tex c)) _ m);
+      second = beq→eq _ _ (and-fst (Bool·beq (mentions "b" ps) (keepsSecond tex c)) _ n);
+      texture = beq→eq _ _ (and-snd (Bool·beq (mentions "b" ps) (keepsSecond tex c)) _ n);
+    }
 
 code-harmless : (tex : Bool) (f : List Slot) (c : ℕ) → T (harmless f c (cut (template (opOf c) tex)))
 code-harmless true f = every-code (λ c o. harmless f c (cut (template o true))) tt (λ c h. tt)
@@ -127,28 +152,24 @@ module _ (A : Aim) {K : Known} (base : Base K) (factor : Bool) (top : T factor �
         → (T (mentions "t" ps) → Frag A K x) → Needs A K ps (fill (operands a b x) ps)
     pieces-needs [] t f g h = tt
     pieces-needs (p ∷ []) t f g h =
-        piece-needs p (and-fst (commonPiece factor p) _ t) (λ e. f (inl (isSlot "a" p) _ e)) (λ e. g (inl (isSlot "b" p) _ e)) (λ e. h (inl (isSlot "t" p) _ e)) tt
+        piece-needs p (and-fst (commonPiece factor p) _ t) (λ e. f (inl (isSlot "a" p) _ e)) (λ e. g (inl (isSlot "b" p) _ e))
+        (λ e. h (inl (isSlot "t" p) _ e)) tt
     pieces-needs (p ∷ (q ∷ r)) t f g h =
-        piece-needs p (and-fst (commonPiece factor p) _ t) (λ e. f (inl (isSlot "a" p) _ e)) (λ e. g (inl (isSlot "b" p) _ e)) (λ e. h (inl (isSlot "t" p) _ e))
-        (pieces-needs (q ∷ r) (and-snd (commonPiece factor p) _ t) (λ e. f (inr (isSlot "a" p) _ e)) (λ e. g (inr (isSlot "b" p) _ e)) (λ e. h (inr (isSlot "t" p) _ e)))
-
-beq-to : (a b : Bool) → T (Bool·beq a b) → T a → T b
-beq-to true true e t = tt
-beq-to true false e t = absurd e
-beq-to false b e t = absurd t
+        piece-needs p (and-fst (commonPiece factor p) _ t) (λ e. f (inl (isSlot "a" p) _ e)) (λ e. g (inl (isSlot "b" p) _ e))
+        (λ e. h (inl (isSlot "t" p) _ e))
+        (pieces-needs (q ∷ r) (and-snd (commonPiece factor p) _ t) (λ e. f (inr (isSlot "a" p) _ e)) (λ e. g (inr (isSlot "b" p) _ e))
+        (λ e. h (inr (isSlot "t" p) _ e)))
 
 -- the text of a code, with arguments a and b
 pub op-frag : {A : Aim} {K : Known} → Base K → (i : ℕ) → i < 8 → (tex : Bool) (c : ℕ) (a b : Text)
-    → (T (keepsFirst tex c) → Frag A K a) → (T (keepsSecond tex c) → Frag A K b) → (T (readsOwnTexel tex c) → T (K .has (texel i))) → (T (eqb c blendFactorAlpha) → 0 < A .rows)
+    → (T (keepsFirst tex c) → Frag A K a) → (T (keepsSecond tex c) → Frag A K b)
+    → (T (readsOwnTexel tex c) → T (K .has (texel i))) → (T (eqb c blendFactorAlpha) → 0 < A .rows)
     → Frag A K (opText i tex (opOf c) a b)
 unfolding opText
 op-frag {A} {K} base i l tex c a b f g h top =
     let ps = cut (template (opOf c) tex) in
     let m = mentions-kept tex c in
-    let m₂ = and-snd (Bool·beq (mentions "a" ps) (keepsFirst tex c)) _ m in
     let o = code-harmless tex (operands a b (texelName i)) c in
     pieces-frag A K ps _ (and-fst (fits ps _) _ o)
     (pieces-needs A base (eqb c blendFactorAlpha) top a b (texelName i) ps (and-snd (fits ps _) _ o)
-    (λ t. f (beq-to (mentions "a" ps) (keepsFirst tex c) (and-fst (Bool·beq (mentions "a" ps) (keepsFirst tex c)) _ m) t))
-    (λ t. g (beq-to (mentions "b" ps) (keepsSecond tex c) (and-fst (Bool·beq (mentions "b" ps) (keepsSecond tex c)) _ m₂) t))
-    (λ t. name-frag (texelWord i l) (h (beq-to (mentions "t" ps) (readsOwnTexel tex c) (and-snd (Bool·beq (mentions "b" ps) (keepsSecond tex c)) _ m₂) t))))
+    (λ t. f (subst T (m .first) t)) (λ t. g (subst T (m .second) t)) (λ t. name-frag (texelWord i l) (h (subst T (m .texture) t))))

@@ -14,7 +14,7 @@ use Rattle.emission.proofs.Names.Check.{Aim, Known, declaring}
 use Rattle.emission.proofs.Names.Frag.{has-more, Reads, literal, _⨾_, done, Frag, arg, pick-frag, loses, forgotten}
 use Rattle.emission.proofs.Names.Words.{the, number-frag, numeral-more, decimal-numeral}
 use Rattle.emission.proofs.Names.Templates.{format-reads, text-frag}
-use Rattle.emission.proofs.Names.Lookups.{aim}
+use Rattle.emission.proofs.Names.Order.{aim}
 use Rattle.emission.proofs.Names.Stages.{later}
 
 -- a part that stands only where b holds
@@ -38,7 +38,9 @@ module _ (sprite : Bool) (rows total : ℕ) where
   depth-reads : (w : Bool) (K : Known) → K .next ≤ 81 → T (K .has (the "in")) → T (K .has (the "fog_data"))
       → Reads A K [] (flat (fogDepthText w)) (declaring A (the "fog_c") K) []
   unfolding fogDepthText
-  depth-reads w K p i f = cond-cases w _ _ (λ x. Reads A K [] x (declaring A (the "fog_c") K) []) (λ t. literal (λ r k. (p, (i, k)))) (λ t. literal (λ r k. (p, (i, (f, k)))))
+  depth-reads w K p i f =
+      cond-cases w _ _ (λ x. Reads A K [] x (declaring A (the "fog_c") K) []) (λ t. literal (λ r k. (p, (i, k))))
+      (λ t. literal (λ r k. (p, (i, (f, k)))))
 
   abbrev factored : Known → Known
   factored K = declaring A (the "fog_f") K
@@ -50,7 +52,8 @@ module _ (sprite : Bool) (rows total : ℕ) where
       cond-cases (eqb mode 1) _ _ (λ x. Reads A K [] x (factored K) []) (λ t. literal (λ r k. (omega arith, (f, (c, k))))) λ t.
       cond-cases (eqb mode 2) _ _ (λ x. Reads A K [] x (factored K) [])
       (λ t. loses (forgotten A (the "fog_dz") (the "fog_f") K tt) (literal (λ r k. (omega arith, (f, (c, (lit≤ tt, (tt, (tt, k)))))))))
-      (λ t. loses (forgotten A (the "fog_range") (the "fog_f") K tt) (literal (λ r k. (omega arith, (f, (f, (lit≤ tt, (tt, (c, (f, (f, (c, (tt, k)))))))))))))
+      (λ t. loses (forgotten A (the "fog_range") (the "fog_f") K tt)
+      (literal (λ r k. (omega arith, (f, (f, (lit≤ tt, (tt, (c, (f, (f, (c, (tt, k)))))))))))))
 
   fog-reads : (v : Variant) (K : Known) → K .next ≤ 81 → T (K .has (the "in")) → T (K .has (the "oC0"))
       → (T (fogged v) → T (K .has (the "fog_data"))) → Reads A K [] (flat (fogText v)) (later 85 (K .seen) K) []
@@ -58,7 +61,8 @@ module _ (sprite : Bool) (rows total : ℕ) where
   fog-reads v K p i o f =
       cond-cases (eqb (v .«fog_table_mode») 0) _ _ (λ x. Reads A K [] x (later 85 (K .seen) K) [])
       (λ t. loses (record { more = λ n h. h; lower = omega arith; same = refl })
-      (when-reads (not (eqb (v .«fog_mode») 0)) _ (λ m. let d = f (inl (not (eqb (v .«fog_mode») 0)) _ m) in literal (λ r k. (o, (d, (o, (i, (o, k)))))))))
+      (when-reads (not (eqb (v .«fog_mode») 0)) _
+      (λ m. let d = f (inl (not (eqb (v .«fog_mode») 0)) _ m) in literal (λ r k. (o, (d, (o, (i, (o, k)))))))))
       (λ t.
       let d = f (inr (not (eqb (v .«fog_mode») 0)) _ t) in
       let K₁ : Known = declaring A (the "fog_c") K in
@@ -83,7 +87,8 @@ module _ (sprite : Bool) (rows total : ℕ) where
   unfolding testText
   test-reads v K o a =
       when-reads (tested v) _ λ t. format-reads "    if (!({comparison})) discard_fragment();\n"
-      (format "    if (!({comparison})) discard_fragment();\n" (("comparison" ≔ comparisonText (v .«alpha_func»)) ∷ [])) tt (comparison-frag (v .«alpha_func») K o (a t), tt)
+      (format "    if (!({comparison})) discard_fragment();\n" (("comparison" ≔ comparisonText (v .«alpha_func»)) ∷ [])) tt
+      (comparison-frag (v .«alpha_func») K o (a t), tt)
 
   return-reads : (v : Variant) (K : Known) → T (K .has (the "oC0")) → Reads A K [] (flat (returnText v)) K []
   unfolding returnText
@@ -91,7 +96,8 @@ module _ (sprite : Bool) (rows total : ℕ) where
       cond-cases (sampleMask v) _ _ (λ x. Reads A K [] x K [])
       (λ t. literal {K′ = K} {b′ = []} {x = bytes "    return FfPsOut { oC0, "} (λ r k. (o, k))
       ⨾ rw (← append-assoc (flat (decimal (v .«sample_mask»))) (bytes "u") (bytes " };\n}\n"))
-      (arg {t = decimal (v .«sample_mask») ⊕ lit "u"} (number-frag (numeral-more _ 117 tt (decimal-numeral 19 (v .«sample_mask»)))) tt (literal (λ r k. k))))
+      (arg {t = decimal (v .«sample_mask») ⊕ lit "u"} (number-frag (numeral-more _ 117 tt (decimal-numeral 19 (v .«sample_mask»)))) tt
+      (literal (λ r k. k))))
       (λ t. literal (λ r k. (o, k)))
 
   -- from the output's first line to the text's end

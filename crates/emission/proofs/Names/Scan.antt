@@ -1,4 +1,4 @@
--- A scan that finds the occurrences and forgets what can no longer matter, so that it computes in the middle of a text; how it reads a word.
+-- A scan that finds what 01's rule finds, and forgets what can no longer matter: so it computes from the middle of a text on.
 use Prim.Native.Nat.{ℕ}
 use mathlib.Core.Path.{_≡_, refl, ap, sym, _∙_}
 use mathlib.Core.List.{List, [], _∷_, _++_, append-assoc}
@@ -29,7 +29,8 @@ angled w = mark 32 ∷ mark 62 ∷ word (bytes "float") ∷ mark 60 ∷ word w �
 
 abbrev typed : List (List Token)
 typed =
-    blank (bytes "Varyings") ∷ blank (bytes "sampler") ∷ blank (bytes "float") ∷ blank (bytes "float2") ∷ blank (bytes "float3") ∷ blank (bytes "float4")
+    blank (bytes "Varyings") ∷ blank (bytes "sampler")
+    ∷ blank (bytes "float") ∷ blank (bytes "float2") ∷ blank (bytes "float3") ∷ blank (bytes "float4")
     ∷ angled (bytes "texture2d") ∷ angled (bytes "texture3d") ∷ angled (bytes "texturecube") ∷ angled (bytes "depth2d") ∷ []
 
 abbrev pointer : List Token
@@ -57,7 +58,10 @@ starts-idle (t ∷ p) (y ∷ x) b h = rw (starts-idle p x b (neither-snd (starts
 
 any-idle : (r : List (List Token)) (x b : List Token) → T (not (anyLater r b)) → anyStarts r (x ++ b) ≡ anyStarts r x
 any-idle [] x b h = refl
-any-idle (p ∷ r) x b h = cc (starts-idle p x b (neither-fst (startsLater p b) (anyLater r b) h), any-idle r x b (neither-snd (startsLater p b) (anyLater r b) h))
+any-idle (p ∷ r) x b h =
+    let e = starts-idle p x b (neither-fst (startsLater p b) (anyLater r b) h) in
+    let f = any-idle r x b (neither-snd (startsLater p b) (anyLater r b) h) in
+    cc
 
 module _ (x b : List Token) (h : T (not (matters b))) where
   name-idle : (w : List ℕ) → isName (x ++ b) w ≡ isName x w
@@ -154,7 +158,8 @@ tokens-append (c ∷ (d ∷ w)) r t = go (continuesName c) (tokens-append (d ∷
 pub tokens-letters : (c : ℕ) (w : List ℕ) → T (letters (c ∷ w)) → tokens (c ∷ w) ≡ word (c ∷ w) ∷ []
 tokens-letters c [] t = rw (true-of (continuesName c) (and-fst (continuesName c) true t))
 tokens-letters c (d ∷ w) t =
-    rw (true-of (continuesName c) (and-fst (continuesName c) (letters (d ∷ w)) t)) (ap (joined c) (tokens-letters d w (and-snd (continuesName c) (letters (d ∷ w)) t)))
+    let e : continuesName c ≡ true = true-of _ (and-fst (continuesName c) (letters (d ∷ w)) t) in
+    rw e (ap (joined c) (tokens-letters d w (and-snd (continuesName c) (letters (d ∷ w)) t)))
 
 -- what stands before, after some tokens
 abbrev pub after : List Token → List Token → List Token
@@ -178,7 +183,9 @@ found-append : (before : List Token) (w : List ℕ) (ts us : List Token) → T (
 found-append before w ts us t = go (listed w)
   where
     rows : cond (same (bytes "ps_c") w) (rowBehind (ts ++ us)) [] ≡ cond (same (bytes "ps_c") w) (rowBehind ts) []
-    rows = either (leb 3 (length ts)) (not (same (bytes "ps_c") w)) (λ l. rw (row-append ts us l)) (λ n. rw (false-of (same (bytes "ps_c") w) n)) t
+    rows =
+        either (leb 3 (length ts)) (not (same (bytes "ps_c") w)) (λ l. rw (row-append ts us l))
+        (λ n. rw (false-of (same (bytes "ps_c") w) n)) t
 
     go : (n : Option Name)
         → cond (isName before w) (occurrenceOf before w (ts ++ us) n) [] ≡ cond (isName before w) (occurrenceOf before w ts n) []

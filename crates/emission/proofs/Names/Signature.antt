@@ -1,4 +1,4 @@
--- The check of the signature and of a point sprite's lines.
+-- The check of what the signature declares in part: `in` or a point sprite's two, names that may be left out, textures and samplers.
 use Prim.Native.Nat.{ℕ, suc, _+_, _*_, _≤_, _<_}
 use mathlib.Core.Path.{_≡_, refl, sym, subst}
 use mathlib.Core.List.{List, [], _∷_, _++_, append-assoc}
@@ -22,7 +22,8 @@ use Rattle.emission.proofs.Names.Check.{Aim, Known, add, declaring, not
 use Rattle.emission.proofs.Names.Frag.{Has, has-more, Reads, literal, _⨾_, done, arg, loses}
 use Rattle.emission.proofs.Names.Words.{the, number-frag, one-digit}
 use Rattle.emission.proofs.Names.Templates.{format-reads, introduces, declared-read, line-reads}
-use Rattle.emission.proofs.Names.Lookups.{aim, textureOf, samplerOf, textureWord, samplerWord, coordinate-frag}
+use Rattle.emission.proofs.Names.Order.{aim, textureOf, samplerOf, textureWord, samplerWord}
+use Rattle.emission.proofs.Names.Samples.{coordinate-frag}
 use Rattle.emission.proofs.Names.Stages.{Textured}
 
 -- a name that is declared only where b holds
@@ -31,7 +32,8 @@ optional A b n K = record { has = λ m. (sameName m n && b) || K .has m; next = 
 
 pub optional-reads : {A : Aim} {K : Known} (b : Bool) (n : Name) (x : List ℕ) → T (not (isTexel n)) → K .next ≤ suc (A .rank n)
     → Reads A K [] x (declaring A n K) [] → Reads A K [] (cond b x []) (optional A b n K) []
-optional-reads {A} {K} true n x t p h = loses (record { more = λ m s. rw and-true at s; lower = omega arith; same = rw (false-of (isTexel n) t) }) h
+optional-reads {A} {K} true n x t p h =
+    loses (record { more = λ m s. rw and-true at s; lower = omega arith; same = rw (false-of (isTexel n) t) }) h
 optional-reads {A} {K} false n x t p h = loses (record { more = λ m s. rw and-false at s; lower = p; same = refl }) done
 
 pub optional-more : (A : Aim) (b : Bool) (n : Name) (K : Known) → Has K (optional A b n K)
@@ -54,7 +56,8 @@ module _ (rows total : ℕ) where
   sprite-line sprite K i l h p =
       format-reads "    " (lit "    ") tt tt
       ⨾ arg {t = coordinateText i Interpolated} (coordinate-frag i l Interpolated h) tt
-      (format-reads " = float4(point_coord.x, point_coord.y, 0.0, 0.0);\n" (lit " = float4(point_coord.x, point_coord.y, 0.0, 0.0);\n") tt (p, (p, tt)))
+      (format-reads " = float4(point_coord.x, point_coord.y, 0.0, 0.0);\n" (lit " = float4(point_coord.x, point_coord.y, 0.0, 0.0);\n") tt
+      (p, (p, tt)))
 
   -- behind a point sprite's lines, or none, `in` is known
   abbrev pub within : Known → Known
@@ -68,11 +71,19 @@ module _ (rows total : ℕ) where
       → Reads (aim sprite rows total) K [] (flat (spriteText sprite)) (within K) []
   unfolding spriteText
   sprite-reads true K p s c i =
-      let line : (i : ℕ) → i < 8 → Reads (aim true rows total) (within K) [] (flat (spriteLine i)) (within K) [] = λ i l. sprite-line true (within K) i l tt (c tt) in
+      let line : (i : ℕ) → i < 8 → Reads (aim true rows total) (within K) [] (flat (spriteLine i)) (within K) [] =
+      λ i l. sprite-line true (within K) i l tt (c tt) in
       literal {K′ = within K} {b′ = []} {x = bytes "    Varyings in = in_stage;\n"} (λ r k. (p, (s tt, k)))
-      ⨾ line 0 (lit≤ tt) ⨾ line 1 (lit≤ tt) ⨾ line 2 (lit≤ tt) ⨾ line 3 (lit≤ tt) ⨾ line 4 (lit≤ tt) ⨾ line 5 (lit≤ tt) ⨾ line 6 (lit≤ tt) ⨾ line 7 (lit≤ tt)
+      ⨾ line 0 (lit≤ tt) ⨾ line 1 (lit≤ tt) ⨾ line 2 (lit≤ tt) ⨾ line 3 (lit≤ tt)
+      ⨾ line 4 (lit≤ tt) ⨾ line 5 (lit≤ tt) ⨾ line 6 (lit≤ tt) ⨾ line 7 (lit≤ tt)
   sprite-reads false K p s c i =
-      loses (record { more = λ n. either (sameName n (the "in")) (K .has n) (λ t. subst (λ (m : Name). T (K .has m)) (sym (same→eq n (the "in") t)) (i tt)) (λ t. t); lower = omega arith; same = refl }) done
+      loses (record {
+        more =
+            λ n. either (sameName n (the "in")) (K .has n) (λ t. subst (λ (m : Name). T (K .has m)) (sym (same→eq n (the "in") t)) (i tt))
+            (λ t. t);
+        lower = omega arith;
+        same = refl;
+      }) done
 
   module _ (sprite : Bool) where
     abbrev A : Aim
@@ -93,13 +104,16 @@ module _ (rows total : ℕ) where
         let slot : Text = lit " [[texture(" ⊕ digit i ⊕ lit ")]]" in
         let front : List ℕ = bytes ",\n    " ++ (flat (typeText t) ++ bytes " ") in
         let h : Reads A K [] (front ++ (flat (textureName i) ++ flat slot)) (declaring A (textureOf i) K) [] =
-        declared-read front (type-introduces t) (textureWord i l) p tt (format-reads " [[texture({i})]]" slot tt (number-frag (one-digit i (omega arith)), tt)) in
+        declared-read front (type-introduces t) (textureWord i l) p tt
+        (format-reads " [[texture({i})]]" slot tt (number-frag (one-digit i (omega arith)), tt)) in
         rw (append-assoc (flat (typeText t)) (bytes " ") (flat (textureName i) ++ flat slot)) at h
 
     sampler-reads : (K : Known) (i : ℕ) → i < 8 → K .next ≤ 11 + 2 * i
         → Reads A K [] (flat (samplerParameter i)) (declaring A (samplerOf i) K) []
     unfolding samplerParameter
-    sampler-reads K i l p = line-reads ",\n    sampler {samp} [[sampler({i})]]" (samplerParameter i) tt (samplerWord i l) p (number-frag (one-digit i (omega arith)), tt)
+    sampler-reads K i l p =
+        line-reads ",\n    sampler {samp} [[sampler({i})]]" (samplerParameter i) tt (samplerWord i l) p
+        (number-frag (one-digit i (omega arith)), tt)
 
     -- x is read, and leaves one who knows what X says
     pub record Passed (K : Known) (x : List ℕ) (bound : ℕ) (X : Known → Type 0) : Type 0 where
@@ -133,9 +147,24 @@ module _ (rows total : ℕ) where
               more = λ n t. g .more n (has-more A (samplerOf i) K₁ n (has-more A (textureOf i) K n t));
               lower = g .lower;
               same = g .same;
-              gives = ((λ t. (g .more (textureOf i) (has-more A (samplerOf i) K₁ (textureOf i) (add-self (textureOf i) (K .has))), g .more (samplerOf i) (add-self (samplerOf i) (K₁ .has)))), g .gives);
+              gives = (
+                (λ t. (
+                  g .more (textureOf i) (has-more A (samplerOf i) K₁ (textureOf i) (add-self (textureOf i) (K .has))),
+                  g .more
+                      (samplerOf i) (add-self (samplerOf i) (K₁ .has)),
+                )),
+                g .gives,
+              );
               reads = (texture-reads v K i (omega arith) p ⨾ sampler-reads K₁ i (omega arith) (omega arith)) ⨾ g .reads;
             }
         go false ih =
             let g = ih K (omega arith) (omega arith) in
-            record { known = g .known; more = g .more; lower = g .lower; same = g .same; gives = ((λ t. absurd t), g .gives); reads = g .reads }
+            record {
+              known =
+                  g .known;
+              more = g .more;
+              lower = g .lower;
+              same = g .same;
+              gives = ((λ t. absurd t), g .gives);
+              reads = g .reads;
+            }

@@ -30,7 +30,8 @@ use Rattle.emission.proofs.Names.Words.{the}
 use Rattle.emission.proofs.Names.Templates.{format-reads, text-frag}
 use Rattle.emission.proofs.Names.Arguments.{Base, base-more, texel, Sure, arg-frag}
 use Rattle.emission.proofs.Names.Operations.{op-frag}
-use Rattle.emission.proofs.Names.Lookups.{aim, textureOf, samplerOf, Behind, sample-reads}
+use Rattle.emission.proofs.Names.Order.{aim, textureOf, samplerOf}
+use Rattle.emission.proofs.Names.Lookups.{Behind, sample-reads}
 use Rattle.emission.proofs.Names.Rules.{Enabled, marked-bound, alpha-cases, colour-constant, alpha-constant, colour-factor, alpha-factor, last-head, last-tail, factor-head, factor-tail, live-head, live-tail, env-head, env-tail, mark-bump, mark-line, lined-temp, colour-texel, alpha-texel, colour-temp, alpha-temp}
 
 -- what a combiner's expression needs at stage i
@@ -55,7 +56,9 @@ source-sure A K i tex s t f m c =
 module _ {A : Aim} {K : Known} (base : Base K) (i : ℕ) (l : i < 8) where
   fallback-frag : (tex : Bool) → Frag A K (expressionText i tex fallback)
   unfolding expressionText
-  fallback-frag tex = op-frag base i l tex 2 _ _ (λ t. arg-frag base i l currentArg tt) (λ t. absurd t) (λ t. absurd (and-snd tex false t)) (λ t. absurd t)
+  fallback-frag tex =
+      op-frag base i l tex 2 _ _ (λ t. arg-frag base i l currentArg tt) (λ t. absurd t) (λ t. absurd (and-snd tex false t))
+      (λ t. absurd t)
 
   module _ (tex : Bool) (c : Combiner) (x : Readable A K i tex c) where
     -- an argument whose selector the combiner keeps
@@ -63,20 +66,27 @@ module _ {A : Aim} {K : Known} (base : Base K) (i : ℕ) (l : i < 8) where
         → Frag A K (argText i (argOf tex a))
     argument-frag n a k =
         arg-frag base i l (argOf tex a)
-        (source-sure A K i tex (selector a) (λ u t. x .isTexel (both (not (fallsBack tex c)) _ n (inl (keeps texture tex c) _ (k texture t)))) (λ t. x .isFactor (inl (keeps factor tex c) _ (k factor t)))
+        (source-sure A K i tex (selector a)
+        (λ u t. x .isTexel (both (not (fallsBack tex c)) _ n (inl (keeps texture tex c) _ (k texture t))))
+        (λ t. x .isFactor (inl (keeps factor tex c) _ (k factor t)))
         (λ t. x .isTemp (both (not (fallsBack tex c)) _ n (k temp t))) (λ t. x .isConstant n (k constant t)))
 
     combined-frag : T (not (fallsBack tex c)) → Frag A K (expressionText i tex (combined tex c))
     unfolding expressionText keeps
     combined-frag n =
         op-frag base i l tex (c .op) _ _
-        (λ k. argument-frag n (c .arg1) (λ s t. inl (keepsFirst tex (c .op) && selects s (c .arg1)) _ (both (keepsFirst tex (c .op)) _ k t)))
-        (λ k. argument-frag n (c .arg2) (λ s t. inr (keepsFirst tex (c .op) && selects s (c .arg1)) _ (both (keepsSecond tex (c .op)) _ k t)))
-        (λ t. x .isTexel (both (not (fallsBack tex c)) _ n (inr (keeps texture tex c) _ t))) (λ t. x .isFactor (inr (keeps factor tex c) _ t))
+        (λ k. argument-frag n (c .arg1)
+        (λ s t. inl (keepsFirst tex (c .op) && selects s (c .arg1)) _ (both (keepsFirst tex (c .op)) _ k t)))
+        (λ k. argument-frag n (c .arg2)
+        (λ s t. inr (keepsFirst tex (c .op) && selects s (c .arg1)) _ (both (keepsSecond tex (c .op)) _ k t)))
+        (λ t. x .isTexel (both (not (fallsBack tex c)) _ n (inr (keeps texture tex c) _ t)))
+        (λ t. x .isFactor (inr (keeps factor tex c) _ t))
 
     expression-frag : Frag A K (expressionText i tex (expressionOf tex c))
     unfolding expressionOf
-    expression-frag = cond-cases (fallsBack tex c) fallback (combined tex c) (λ e. Frag A K (expressionText i tex e)) (λ t. fallback-frag tex) combined-frag
+    expression-frag =
+        cond-cases (fallsBack tex c) fallback (combined tex c) (λ e. Frag A K (expressionText i tex e))
+        (λ t. fallback-frag tex) combined-frag
 
   -- the line of a stage
   module _ (tex temped : Bool) (isTemp : T temped → T (K .has (the "temp"))) (colour : Expression) (f : Frag A K (expressionText i tex colour)) where
@@ -89,12 +99,16 @@ module _ {A : Aim} {K : Known} (base : Base K) (i : ℕ) (l : i < 8) where
 
     kept-line : Reads A K [] (flat (lineText i tex temped colour Kept)) K []
     unfolding lineText
-    kept-line = format-reads "    {result} = float4(({colour}).rgb, ({result}).a);\n" (lineText i tex temped colour Kept) tt (result-frag, (f, (result-frag, tt)))
+    kept-line =
+        format-reads "    {result} = float4(({colour}).rgb, ({result}).a);\n" (lineText i tex temped colour Kept) tt
+        (result-frag, (f, (result-frag, tt)))
 
     written-line : (e : Expression) → Frag A K (expressionText i tex e)
         → Reads A K [] (flat (lineText i tex temped colour (Written e))) K []
     unfolding lineText
-    written-line e g = format-reads "    {result} = float4(({colour}).rgb, ({alpha}).a);\n" (lineText i tex temped colour (Written e)) tt (result-frag, (f, (g, tt)))
+    written-line e g =
+        format-reads "    {result} = float4(({colour}).rgb, ({alpha}).a);\n" (lineText i tex temped colour (Written e)) tt
+        (result-frag, (f, (g, tt)))
 
 -- the textures and samplers of these stages, from stage i on, are known
 abbrev pub Textured : Known → ℕ → List Stage → Type 0
@@ -103,7 +117,8 @@ Textured K i (s ∷ r) = (T (textured s) → T (K .has (textureOf i)) × T (K .h
 
 pub textured-more : (K K′ : Known) → Has K K′ → (i : ℕ) (ss : List Stage) → Textured K i ss → Textured K′ i ss
 textured-more K K′ u i [] t = tt
-textured-more K K′ u i (s ∷ r) t = ((λ x. (u (textureOf i) (t .0 x .0), u (samplerOf i) (t .0 x .1))), textured-more K K′ u (suc i) r (t .1))
+textured-more K K′ u i (s ∷ r) t =
+    ((λ x. (u (textureOf i) (t .0 x .0), u (samplerOf i) (t .0 x .1))), textured-more K K′ u (suc i) r (t .1))
 
 -- the names of K, where others have been declared since
 abbrev pub later : ℕ → ℕ → Known → Known
@@ -179,7 +194,9 @@ module _ (sprite : Bool) (rows total : ℕ) (v : Variant) (projected : ℕ) (ali
           isLod = λ t. u _ (e .isLod t);
           isBump = λ t. u _ (e .isBump (env-tail alive s r t));
           isTextured = textured-more K K₁ u (suc i) r (e .isTextured .1);
-          behind = λ t. cond-cases (bump s) _ _ (Behind K₁) (λ b. (omega (arith, e .small), (λ x. u _ (e .isBump (env-head alive s r t b x))), (λ x. m (mark-bump alive s r t b x)))) (λ n. tt);
+          behind = λ t. cond-cases (bump s) _ _ (Behind K₁)
+              (λ b. (omega (arith, e .small), (λ x. u _ (e .isBump (env-head alive s r t b x))), (λ x. m (mark-bump alive s r t b x))))
+              (λ n. tt);
           temps = λ t. e .temps (live-tail s r t);
           constants = omega (arith, last-tail i s r, e .constants);
           factors = λ t. e .factors (factor-tail s r t);
@@ -190,7 +207,8 @@ module _ (sprite : Bool) (rows total : ℕ) (v : Variant) (projected : ℕ) (ali
   pub stages-read : (ss : List Stage) (before : Before) (i : ℕ) (K : Known) → Env K before i ss
       → Reads A K [] (flat (stagesText v projected alive before i ss)) (later 72 total K) []
   unfolding stagesText lookupsOf
-  stages-read [] before i K e = loses (record { more = λ n t. t; lower = omega (arith, e .small, e .free); same = omega (arith, e .count) }) done
+  stages-read [] before i K e =
+      loses (record { more = λ n t. t; lower = omega (arith, e .small, e .free); same = omega (arith, e .count) }) done
   stages-read (s ∷ r) before i K e = go (marked alive (s ∷ r)) (λ t. t) (λ t. t) (e .count) (stages-read r (beforeOf i s) (suc i))
     where
       S : List ℕ
@@ -209,8 +227,11 @@ module _ (sprite : Bool) (rows total : ℕ) (v : Variant) (projected : ℕ) (ali
           let t : T (K₁ .has (texel i)) = add-self (texel i) (K .has) in
           let x = e .isTextured .0 (marked-bound alive s r (e .enabled .0) (g tt)) in
           sample-reads sprite rows total i before (lookupOf v i) K (lodBias v) (bit projected i) (e .free)
-          (record { small = omega (arith, e .small); isTexture = x .0; isSampler = x .1; isLod = e .isLod }) (e .base .isIn) (e .behind (g tt))
+          (record { small = omega (arith, e .small); isTexture = x .0; isSampler = x .1; isLod = e .isLod }) (e .base .isIn)
+          (e .behind (g tt))
           ⨾ line-reads i s r K₁ K before u e (λ y. t)
-          ⨾ loses (record { more = u; lower = omega arith; same = refl }) (ih K₁ (next-env i s r K K₁ before e u (omega arith) (λ y. t) (omega arith)))
+          ⨾ loses (record { more = u; lower = omega arith; same = refl })
+          (ih K₁ (next-env i s r K K₁ before e u (omega arith) (λ y. t) (omega arith)))
       go false f g c ih =
-          line-reads i s r K K before (λ n t. t) e (λ y. absurd (f y)) ⨾ ih K (next-env i s r K K before e (λ n t. t) (omega (arith, e .free)) (λ y. absurd (f y)) c)
+          line-reads i s r K K before (λ n t. t) e (λ y. absurd (f y)) ⨾ ih K
+          (next-env i s r K K before e (λ n t. t) (omega (arith, e .free)) (λ y. absurd (f y)) c)

@@ -12,15 +12,15 @@ use Rattle.emission.proofs.Names.Truth.{and-fst, and-snd, inl, inr, eit
 use Rattle.emission.proofs.Names.Scan.{scan, breaks, ended, after, settled, tokens-append, scan-append}
 use Rattle.emission.proofs.Names.Check.{Aim, Known, Holds, declaring}
 use Rattle.emission.proofs.Names.Words.{Word}
-use Rattle.emission.proofs.Names.Frag.{Has, has-more, Reads, literal, append, Frag, opens, opens-append}
+use Rattle.emission.proofs.Names.Frag.{Has, has-more, Reads, literal, append, Frag, opens, opens-append, pick-frag}
 
-abbrev pub isEmpty : List Token → Bool
+abbrev pub isEmpty : {X : Type 0} → List X → Bool
 isEmpty [] = true
-isEmpty (t ∷ b) = false
+isEmpty (x ∷ l) = false
 
-empty-eq : (b : List Token) → T (isEmpty b) → b ≡ []
+empty-eq : {X : Type 0} (l : List X) → T (isEmpty l) → l ≡ []
 empty-eq [] t = refl
-empty-eq (x ∷ b) t = absurd t
+empty-eq (x ∷ l) t = absurd t
 
 -- what the occurrences l need, and what is needed behind them
 abbrev pub Uses : Aim → Known → List Occurrence → Type 0 → Type 0
@@ -102,14 +102,17 @@ module _ (A : Aim) (K K′ : Known) (u : Has K K′) where
   words-read w r X t s h k =
       let e : after [] (tokens w) ≡ [] = empty-eq _ (and-snd (settled (tokens w)) _ t) in
       let parts : scan [] (tokens (w ++ r)) ≡ scan [] (tokens w) ++ scan [] (tokens r) =
-      ap (scan []) (tokens-append w r s) ∙ scan-append (tokens w) (tokens r) [] (and-fst (settled (tokens w)) _ t) ∙ ap (λ (b : List Token). scan [] (tokens w) ++ scan b (tokens r)) e in
+      ap (scan []) (tokens-append w r s)
+      ∙ scan-append (tokens w) (tokens r) [] (and-fst (settled (tokens w)) _ t)
+      ∙ ap (λ (b : List Token). scan [] (tokens w) ++ scan b (tokens r)) e in
       subst (Holds A K′) (sym parts) (uses-holds A K K′ (scan [] (tokens w)) (scan [] (tokens r)) X u h k)
 
   piece-read : (p : Piece) (t : Text) (r : List ℕ) (X : Type 0) → T (fitsPiece p t) → T (endsPiece p || breaks r) → NeedsPiece A K p t X
       → (X → Holds A K′ (scan [] (tokens r)))
       → Holds A K′ (scan [] (tokens (flat t ++ r)))
   piece-read (slot v) t r X f s n k = n .0 .reads K′ u r s (k (n .1))
-  piece-read (words w) t r X f s n k = rw (same→eq (flat t) w (and-fst (same (flat t) w) _ f)) (words-read w r X (and-snd (same (flat t) w) _ f) s n k)
+  piece-read (words w) t r X f s n k =
+      rw (same→eq (flat t) w (and-fst (same (flat t) w) _ f)) (words-read w r X (and-snd (same (flat t) w) _ f) s n k)
 
   pieces-read : (ps : List Piece) (t : Text) → T (fits ps t) → Needs A K ps t → (r : List ℕ) → T (endsAll ps || breaks r)
       → Holds A K′ (scan [] (tokens r)) → Holds A K′ (scan [] (tokens (flat t ++ r)))
@@ -120,7 +123,8 @@ module _ (A : Aim) (K K′ : Known) (u : Has K K′) where
   pieces-read (p ∷ (q ∷ ps)) (s ⊕ t) f n r c k =
       let here = and-fst (fitsPiece p s && (endsPiece p || opens (flat t))) (fits (q ∷ ps) t) f in
       let seam : T (endsPiece p || breaks (flat t ++ r)) =
-      either (endsPiece p) (opens (flat t)) (λ e. inl (endsPiece p) _ e) (λ o. inr (endsPiece p) _ (opens-append (flat t) r o)) (and-snd (fitsPiece p s) _ here) in
+      either (endsPiece p) (opens (flat t)) (λ e. inl (endsPiece p) _ e) (λ o. inr (endsPiece p) _ (opens-append (flat t) r o))
+      (and-snd (fitsPiece p s) _ here) in
       append A K′ [] (flat s) (flat t) r
       (piece-read p s (flat t ++ r) (Needs A K (q ∷ ps) t) (and-fst (fitsPiece p s) _ here) seam n
       (λ m. pieces-read (q ∷ ps) t (and-snd (fitsPiece p s && (endsPiece p || opens (flat t))) (fits (q ∷ ps) t) f) m r c k))
@@ -136,24 +140,28 @@ format-frag {A} {K} {t} s f n = pieces-frag A K (cut s) t f n
 pub format-reads : {A : Aim} {K : Known} (s : String) (t : Text) → T (fits (cut s) t && endsAll (cut s)) → Needs A K (cut s) t
     → Reads A K [] (flat t) K []
 format-reads {A} {K} s t f n =
-    literal (λ r k. pieces-read A K K (λ n h. h) (cut s) t (and-fst (fits (cut s) t) _ f) n r (inl (endsAll (cut s)) _ (and-snd (fits (cut s) t) _ f)) k)
+    literal (λ r k. pieces-read A K K (λ n h. h) (cut s) t (and-fst (fits (cut s) t) _ f) n r
+    (inl (endsAll (cut s)) _ (and-snd (fits (cut s) t) _ f)) k)
 
 -- a literal text
 pub text-frag : {A : Aim} {K : Known} {w : List ℕ} → T (whole w) → Uses A K (scan [] (tokens w)) (Unit {0}) → Frag A K (raw w)
 text-frag {A} {K} {w} t n = record { reads = λ K′ u r s k. words-read A K K′ u w r (Unit {0}) t (inr (ended w) _ s) n (λ x. k) }
 
+-- a literal text in which nothing is found, and one of two such
+abbrev pub silent : List ℕ → Bool
+silent w = whole w && isEmpty (scan [] (tokens w))
+
+silent-frag : {A : Aim} {K : Known} (w : List ℕ) → T (silent w) → Frag A K (raw w)
+silent-frag w t = text-frag (and-fst (whole w) _ t) (rw (empty-eq (scan [] (tokens w)) (and-snd (whole w) _ t)) tt)
+
+pub either-frag : {A : Aim} {K : Known} {b : Bool} {v w : List ℕ} → T (silent v && silent w) → Frag A K (pick b (raw v) (raw w))
+either-frag {v = v} {w = w} t = pick-frag (λ s. silent-frag v (and-fst (silent v) _ t)) (λ s. silent-frag w (and-snd (silent v) _ t))
+
 -- words that say nothing and end in what declares the name behind them
-abbrev noneFound : List Occurrence → Bool
-noneFound [] = true
-noneFound (o ∷ l) = false
-
-none-eq : (l : List Occurrence) → T (noneFound l) → l ≡ []
-none-eq [] t = refl
-none-eq (o ∷ l) t = absurd t
-
 abbrev pub introduces : List ℕ → Bool
 introduces w =
-    (ended w && (settled (tokens w) && noneFound (scan [] (tokens w)))) && (declares (after [] (tokens w)) && not (follows (bytes ".") (after [] (tokens w))))
+    (declares (after [] (tokens w)) && not (follows (bytes ".") (after [] (tokens w))))
+    && (ended w && (settled (tokens w) && isEmpty (scan [] (tokens w))))
 
 pub declared-read : {A : Aim} {K K′ : Known} {b : List Token} {n : Name} (w : List ℕ) {x y : List ℕ} → T (introduces w) → Word x n
     → K .next ≤ A .rank n → T (opens y)
@@ -161,15 +169,24 @@ pub declared-read : {A : Aim} {K K′ : Known} {b : List Token} {n : Name} (w : 
 declared-read {A} {K} {n = n} w {x} {y} t W p o h =
     literal λ r k. append A K [] w (x ++ y) r
     (subst (Holds A K) (sym (words-scan ((x ++ y) ++ r)))
-    (append A K (after [] (tokens w)) x y r (subst (Holds A K) (sym (W .bound (after [] (tokens w)) (and-snd (ended w && (settled (tokens w) && noneFound (scan [] (tokens w)))) _ t) (y ++ r) (opens-append y r o))) (p, h .on r k))))
+    (append A K context x y r
+    (subst (Holds A K) (sym (W .bound context declaring-here (y ++ r) (opens-append y r o))) (p, h .on r k))))
   where
-    front : T (ended w && (settled (tokens w) && noneFound (scan [] (tokens w))))
-    front = and-fst (ended w && (settled (tokens w) && noneFound (scan [] (tokens w)))) _ t
+    context : List Token
+    context = after [] (tokens w)
 
-    words-scan : (r : List ℕ) → scan [] (tokens (w ++ r)) ≡ scan (after [] (tokens w)) (tokens r)
+    declaring-here : T (declares context && not (follows (bytes ".") context))
+    declaring-here = and-fst (declares context && not (follows (bytes ".") context)) _ t
+
+    front : T (ended w && (settled (tokens w) && isEmpty (scan [] (tokens w))))
+    front = and-snd (declares context && not (follows (bytes ".") context)) _ t
+
+    words-scan : (r : List ℕ) → scan [] (tokens (w ++ r)) ≡ scan context (tokens r)
     words-scan r =
-        ap (scan []) (tokens-append w r (inl (ended w) _ (and-fst (ended w) _ front))) ∙ scan-append (tokens w) (tokens r) [] (and-fst (settled (tokens w)) _ (and-snd (ended w) _ front))
-        ∙ rw (none-eq (scan [] (tokens w)) (and-snd (settled (tokens w)) _ (and-snd (ended w) _ front)))
+        let e : scan [] (tokens w) ≡ [] = empty-eq _ (and-snd (settled (tokens w)) _ (and-snd (ended w) _ front)) in
+        ap (scan []) (tokens-append w r (inl (ended w) _ (and-fst (ended w) _ front)))
+        ∙ scan-append (tokens w) (tokens r) [] (and-fst (settled (tokens w)) _ (and-snd (ended w) _ front))
+        ∙ ap (λ (os : List Occurrence). os ++ scan context (tokens r)) e
 
 -- a line whose template declares what stands in its first slot
 abbrev pub frontOf : List Piece → List ℕ
@@ -202,4 +219,5 @@ line-reads {A} {K} {n} s (t ⊕ (x ⊕ y)) f W p m =
     let f₃ = and-snd (opens (flat y)) _ f₂ in
     rw (same→eq (flat t) front (and-fst (same (flat t) front) _ f))
     (declared-read front (and-fst (introduces front) _ f₁) W p (and-fst (opens (flat y)) _ f₂)
-    (literal λ r k. pieces-read A K (declaring A n K) (has-more A n K) behind y (and-fst (fits behind y) _ f₃) m r (inl (endsAll behind) _ (and-snd (fits behind y) _ f₃)) k))
+    (literal λ r k. pieces-read A K (declaring A n K) (has-more A n K) behind y (and-fst (fits behind y) _ f₃) m r
+    (inl (endsAll behind) _ (and-snd (fits behind y) _ f₃)) k))

@@ -13,9 +13,6 @@ pub false-of : (b : Bool) → T (not b) → b ≡ false
 false-of true t = absurd t
 false-of false t = refl
 
-pub of-true : {b : Bool} → b ≡ true → T b
-of-true e = rw e tt
-
 pub and-fst : (a b : Bool) → T (a && b) → T a
 and-fst true b t = tt
 and-fst false b t = absurd t

@@ -1,5 +1,5 @@
 -- Words: a listed name as a use and as a declaration, a number, a field behind a full stop.
-use Prim.Native.Nat.{ℕ, zero, suc, _+_, _/_, _%_, _≤_, _<_}
+use Prim.Native.Nat.{ℕ, zero, suc, _+_, _/_, _%_, _<_}
 use Prim.Native.String.{String}
 use mathlib.Core.Path.{_≡_, refl, ap, sym, _∙_, subst}
 use mathlib.Core.List.{List, [], _∷_, _++_}
@@ -14,8 +14,8 @@ use Rattle.emission.specs.Names.{Name, name, Token, word, mark, tokens, 
 use Rattle.emission.specs.Demand.{sameName}
 use Rattle.emission.proofs.Names.Truth.{true-of, false-of, and-fst, and-snd, both, inr, below, below-at, cond-cases}
 use Rattle.emission.proofs.Names.Scan.{scan, breaks, letters, matters, ended, tokens-append, tokens-letters}
-use Rattle.emission.proofs.Names.Check.{Aim, Known, Holds, declaring}
-use Rattle.emission.proofs.Names.Frag.{Reads, literal, append, Frag}
+use Rattle.emission.proofs.Names.Check.{Aim, Known, Holds}
+use Rattle.emission.proofs.Names.Frag.{Frag}
 
 -- a word, where it ends
 word-tokens : (c : ℕ) (w r : List ℕ) → T (letters (c ∷ w)) → T (breaks r) → tokens ((c ∷ w) ++ r) ≡ word (c ∷ w) ∷ tokens r
@@ -51,8 +51,9 @@ module _ (b : List Token) (n : Name) (w : List ℕ) (t : T (isWordOf b n w)) (u 
       let e₁ : startsDigit w ≡ false = false-of _ (and-snd (letters w) _ (and-fst (letters w && not (startsDigit w)) _ t)) in
       let e₂ : follows (bytes ".") b ≡ false = false-of _ u in
       let e₃ : listed w ≡ some n = names→eq n (listed w) (and-fst (names n (listed w)) _ facts) in
-      let e₄ : same (bytes "ps_c") w ≡ false = false-of _ (and-fst (not (same (bytes "ps_c") w)) _ (and-snd (names n (listed w)) _ facts)) in
-      let e₅ : matters (word w ∷ b) ≡ false = false-of _ (and-snd (not (same (bytes "ps_c") w)) _ (and-snd (names n (listed w)) _ facts)) in
+      let rest = and-snd (names n (listed w)) _ facts in
+      let e₄ : same (bytes "ps_c") w ≡ false = false-of _ (and-fst (not (same (bytes "ps_c") w)) _ rest) in
+      let e₅ : matters (word w ∷ b) ≡ false = false-of _ (and-snd (not (same (bytes "ps_c") w)) _ rest) in
       rw (e₁, e₂, e₃, e₄, e₅) (go (declares b))
     where
       go : (e : Bool) → cond e (declaration n ∷ []) (usage n ∷ []) ++ scan [] ts ≡ cond e (declaration n) (usage n) ∷ scan [] ts
@@ -64,7 +65,9 @@ word-of n [] h = absurd (h [])
 word-of n (c ∷ v) h =
     record {
       used = λ r s. ap (scan []) (word-tokens c v r spelt s) ∙ word-scan [] n (c ∷ v) (h []) tt (tokens r);
-      bound = λ b d r s. ap (scan b) (word-tokens c v r spelt s) ∙ word-scan b n (c ∷ v) (h b) (and-snd (declares b) _ d) (tokens r) ∙ rw (true-of (declares b) (and-fst (declares b) _ d));
+      bound =
+          λ b d r s. ap (scan b) (word-tokens c v r spelt s) ∙ word-scan b n (c ∷ v) (h b) (and-snd (declares b) _ d) (tokens r)
+          ∙ rw (true-of (declares b) (and-fst (declares b) _ d));
     }
   where
     spelt : T (letters (c ∷ v))
@@ -77,16 +80,11 @@ the s = elim (listed (bytes s)) [ some n ↦ n | none ↦ name 0 0 ]
 -- a family of listed names: one test of the eight
 pub family : (k : ℕ) (s : List ℕ) → ((b : List Token) → T (below 8 (λ i. isWordOf b (name k i) (s ++ ((48 + i) ∷ []))))) → (i : ℕ) → i < 8
     → Word (s ++ ((48 + i) ∷ [])) (name k i)
-family k s h i l = word-of (name k i) (s ++ ((48 + i) ∷ [])) (λ b. below-at (λ j. isWordOf b (name k j) (s ++ ((48 + j) ∷ []))) 8 i (h b) l)
+family k s h i l =
+    word-of (name k i) (s ++ ((48 + i) ∷ [])) (λ b. below-at (λ j. isWordOf b (name k j) (s ++ ((48 + j) ∷ []))) 8 i (h b) l)
 
 pub name-frag : {A : Aim} {K : Known} {t : Text} {n : Name} → Word (flat t) n → T (K .has n) → Frag A K t
 name-frag {A} {n = n} W h = record { reads = λ K′ u r s k. subst (Holds A K′) (sym (W .used r s)) (u n h, k) }
-
--- a declaration, and what follows it
-pub bind : {A : Aim} {K K′ : Known} {b b′ : List Token} {w y : List ℕ} {n : Name} {c : ℕ} → Word w n
-    → T (declares b && not (follows (bytes ".") b)) → K .next ≤ A .rank n → T (not (continuesName c))
-    → Reads A (declaring A n K) [] (c ∷ y) K′ b′ → Reads A K b (w ++ (c ∷ y)) K′ b′
-bind {A} {K} {b = b} {w = w} {y = y} {c = c} W d p t h = literal (λ r k. append A K b w (c ∷ y) r (subst (Holds A K) (sym (W .bound b d ((c ∷ y) ++ r) t)) (p, h .on r k)))
 
 -- a field: a word behind a full stop
 abbrev pub isField : List ℕ → Bool
@@ -121,17 +119,24 @@ pub record Numeral (x : List ℕ) : Type 0 where
 number-scan : (d : ℕ) (w : List ℕ) → d < 10 → T (letters w) → (r : List ℕ) → T (breaks r)
     → scan [] (tokens (((48 + d) ∷ w) ++ r)) ≡ scan [] (tokens r)
 number-scan d w l t r s =
-    ap (scan []) (word-tokens (48 + d) w r (both (continuesName (48 + d)) (letters w) (digit-inside d l) t) s) ∙ rw (digit-is d l, digit-idle d w l)
+    ap (scan []) (word-tokens (48 + d) w r (both (continuesName (48 + d)) (letters w) (digit-inside d l) t) s)
+    ∙ rw (digit-is d l, digit-idle d w l)
 
 pub number-frag : {A : Aim} {K : Known} {t : Text} → Numeral (flat t) → Frag A K t
-number-frag {A} N = record { reads = λ K′ u r s k. rw (N .is) (subst (Holds A K′) (sym (number-scan (N .first) (N .others) (N .digit) (N .spelt) r s)) k) }
+number-frag {A} N =
+    record {
+      reads =
+          λ K′ u r s k. rw (N .is) (subst (Holds A K′) (sym (number-scan (N .first) (N .others) (N .digit) (N .spelt) r s)) k);
+    }
 
 -- a row of `ps_c`
 pub row-scan : (d : ℕ) → d < 10 → (r : List ℕ)
     → scan [] (tokens (bytes "ps_c[" ++ ((48 + d) ∷ (93 ∷ r)))) ≡ usage (the "ps_c") ∷ row d ∷ scan [] (tokens r)
 row-scan d l r =
-    let e : tokens ((48 + d) ∷ (93 ∷ r)) ≡ word ((48 + d) ∷ []) ∷ tokens (93 ∷ r) = word-tokens (48 + d) [] (93 ∷ r) (both (continuesName (48 + d)) true (digit-inside d l) tt) tt in
-    ap (λ (ts : List Token). scan [] (word (bytes "ps_c") ∷ mark 91 ∷ ts)) e ∙ ap (λ (n : Option ℕ). usage (the "ps_c") ∷ (rowOf n ++ scan [] (word ((48 + d) ∷ []) ∷ tokens (93 ∷ r)))) numbered
+    let e : tokens ((48 + d) ∷ (93 ∷ r)) ≡ word ((48 + d) ∷ []) ∷ tokens (93 ∷ r) =
+    word-tokens (48 + d) [] (93 ∷ r) (both (continuesName (48 + d)) true (digit-inside d l) tt) tt in
+    ap (λ (ts : List Token). scan [] (word (bytes "ps_c") ∷ mark 91 ∷ ts)) e
+    ∙ ap (λ (n : Option ℕ). usage (the "ps_c") ∷ (rowOf n ++ scan [] (word ((48 + d) ∷ []) ∷ tokens (93 ∷ r)))) numbered
     ∙ ap (λ (os : List Occurrence). usage (the "ps_c") ∷ row d ∷ os) (sym (ap (scan []) e) ∙ number-scan d [] l tt (93 ∷ r) tt)
   where
     numbered : numberFrom 0 ((48 + d) ∷ []) ≡ some d
@@ -145,7 +150,15 @@ letters-more [] c s t = both (continuesName c) true t tt
 letters-more (d ∷ w) c s t = both (continuesName d) _ (and-fst (continuesName d) _ s) (letters-more w c (and-snd (continuesName d) _ s) t)
 
 pub numeral-more : (x : List ℕ) (c : ℕ) → T (continuesName c) → Numeral x → Numeral (x ++ (c ∷ []))
-numeral-more x c t N = record { first = N .first; others = N .others ++ (c ∷ []); digit = N .digit; spelt = letters-more (N .others) c (N .spelt) t; is = rw (N .is) }
+numeral-more x c t N =
+    record {
+      first =
+          N .first;
+      others = N .others ++ (c ∷ []);
+      digit = N .digit;
+      spelt = letters-more (N .others) c (N .spelt) t;
+      is = rw (N .is);
+    }
 
 -- a number in decimal
 decimal-more : (n k d : ℕ) → d < 10 → Numeral (flat (decimalOf n k) ++ ((48 + d) ∷ []))
@@ -157,4 +170,5 @@ decimal-more (suc n) k d l =
 
 pub decimal-numeral : (n k : ℕ) → Numeral (flat (decimalOf (suc n) k))
 unfolding decimalOf
-decimal-numeral n k = cond-cases (ltb k 10) _ _ Numeral (λ t. one-digit k (ltb→lt k 10 t)) (λ t. decimal-more n (k / 10) (k % 10) (omega arith))
+decimal-numeral n k =
+    cond-cases (ltb k 10) _ _ Numeral (λ t. one-digit k (ltb→lt k 10 t)) (λ t. decimal-more n (k / 10) (k % 10) (omega arith))

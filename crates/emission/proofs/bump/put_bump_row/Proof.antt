@@ -1,4 +1,5 @@
 use Rattle.text.proofs.Laws.{_⨾_}
+use mathlib.Core.Path.{refl}
 use borrow.Author.Needs.{needs}
 use Rattle.emission.specs.Lookups.{bumpRow}
 use Rattle.emission.proofs.bump.put_bump_row.Statement.{statement}
@@ -9,11 +10,11 @@ unfolding bumpRow
 put-bump-row-spec =
     tie.close
     (tie.spec
-    (λ c. search needs)
-    (λ c κs. search needs)
-    (λ c κs. search needs)
-    (λ c. search needs)
-    (λ c κs. search needs)
+    (λ c. refl)
+    (λ c κs. tt)
+    (λ c κs. tt)
+    (λ c. refl)
+    (λ c κs. tt)
     (λ c. search needs)
     (λ c.
     let c₃ = c .before .before in

@@ -11,6 +11,8 @@ put-bumped-spec =
     (λ c κs. search needs)
     (λ c κs. search needs)
     (λ c. search needs)
-    (λ c. pick-true (c .before .before .before .before .before .before .before .before .if1 .taken) (c .before .before .before .before .before .before .put-displacement .ensures ⨾ c .before .before .put-lookup .ensures))
+    (λ c.
+    pick-true (c .before .before .before .before .before .before .before .before .if1 .taken)
+    (c .before .before .before .before .before .before .put-displacement .ensures ⨾ c .before .before .put-lookup .ensures))
     (λ c. search needs)
     (λ c. pick-false (c .before .before .before .before .if1 .left) (c .before .before .put-lookup2 .ensures)))

@@ -1,4 +1,5 @@
 use Rattle.text.proofs.Laws.{_⨾_}
+use mathlib.Core.Path.{refl}
 use borrow.Author.Needs.{needs}
 use Rattle.emission.specs.Lookups.{displacedLine}
 use Rattle.emission.proofs.bump.put_displaced_line.Statement.{statement}
@@ -9,17 +10,17 @@ unfolding displacedLine
 put-displaced-line-spec =
     tie.close
     (tie.spec
-    (λ c. search needs)
+    (λ c. refl)
+    (λ c κs. tt)
     (λ c κs. search needs)
+    (λ c. refl)
+    (λ c κs. tt)
     (λ c κs. search needs)
-    (λ c. search needs)
+    (λ c. refl)
+    (λ c κs. tt)
     (λ c κs. search needs)
-    (λ c κs. search needs)
-    (λ c. search needs)
-    (λ c κs. search needs)
-    (λ c κs. search needs)
-    (λ c. search needs)
-    (λ c κs. search needs)
+    (λ c. refl)
+    (λ c κs. tt)
     (λ c. search needs)
     (λ c.
     let c₇ = c .before .before in
@@ -29,4 +30,5 @@ put-displaced-line-spec =
     let c₃ = c₄ .before .before .before .before in
     let c₂ = c₃ .before .before .before .before .before in
     let c₁ = c₂ .before .before .before .before in
-    c₁ .put .ensures ⨾ c₂ .put-coordinate .ensures ⨾ c₃ .put2 .ensures ⨾ c₄ .put-moved .ensures ⨾ c₅ .put3 .ensures ⨾ c₆ .put-coordinate2 .ensures ⨾ c₇ .put4 .ensures))
+    c₁ .put .ensures ⨾ c₂ .put-coordinate .ensures ⨾ c₃ .put2 .ensures ⨾ c₄ .put-moved .ensures ⨾ c₅ .put3 .ensures ⨾ c₆ .put-coordinate2 .ensures
+    ⨾ c₇ .put4 .ensures))

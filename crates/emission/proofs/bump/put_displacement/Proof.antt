@@ -13,6 +13,8 @@ put-displacement-spec =
     (λ c κs. search needs)
     (λ c κs. search needs)
     (λ c. search needs)
-    (λ c. pick-true (c .before .before .before .before .before .before .before .before .if1 .taken) (c .before .before .before .before .before .before .put-divided-line .ensures ⨾ c .before .before .put-displaced-line .ensures))
+    (λ c.
+    pick-true (c .before .before .before .before .before .before .before .before .if1 .taken)
+    (c .before .before .before .before .before .before .put-divided-line .ensures ⨾ c .before .before .put-displaced-line .ensures))
     (λ c. search needs)
     (λ c. pick-false (c .before .before .before .before .if1 .left) (c .before .before .put-displaced-line2 .ensures)))

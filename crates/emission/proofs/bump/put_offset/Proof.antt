@@ -1,5 +1,6 @@
 use Rattle.emission.proofs.Laws.{regroup}
 use Rattle.text.proofs.Laws.{_⨾_}
+use mathlib.Core.Path.{refl}
 use borrow.Author.Needs.{needs}
 use Rattle.emission.specs.Lookups.{offsetText}
 use Rattle.emission.proofs.bump.put_offset.Statement.{statement}
@@ -11,11 +12,11 @@ put-offset-spec =
     tie.close
     (tie.spec
     (λ c κs. search needs)
-    (λ c. search needs)
+    (λ c. refl)
+    (λ c κs. tt)
     (λ c κs. search needs)
-    (λ c κs. search needs)
-    (λ c. search needs)
-    (λ c κs. search needs)
+    (λ c. refl)
+    (λ c κs. tt)
     (λ c. search needs)
     (λ c.
     let c₄ = c .before .before in

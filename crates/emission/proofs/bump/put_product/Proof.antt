@@ -9,7 +9,7 @@ put-product-spec =
     (tie.spec
     (λ c. search needs)
     (λ c κs. search needs)
-    (λ c κs. search needs)
+    (λ c κs. tt)
     (λ c κs. search needs)
     (λ c. search needs)
     (λ c.

@@ -21,4 +21,6 @@ put-sample-spec =
     (λ c. search needs)
     (λ c. rw (c .before .before .before .before .enum-told .given .1) (c .before .before .put-lookup .ensures))
     (λ c. search needs)
-    (λ c. rw (c .before .before .before .before .before .before .before .before .before .before2 .given .1) (c .before .before .before .before .before .before .put-bumped .ensures ⨾ c .before .before .put-luminance .ensures)))
+    (λ c.
+    rw (c .before .before .before .before .before .before .before .before .before .before2 .given .1)
+    (c .before .before .before .before .before .before .put-bumped .ensures ⨾ c .before .before .put-luminance .ensures)))

@@ -1,4 +1,5 @@
 use Rattle.text.proofs.Laws.{_⨾_, pick-true, pick-false, nothing}
+use mathlib.Core.Path.{refl}
 use native.Mathlib.Omega.{arith}
 use borrow.Author.Needs.{needs}
 use Rattle.emission.proofs.bump.put_scaled.Statement.{statement}
@@ -9,13 +10,13 @@ put-scaled-spec =
     tie.close
     (tie.spec
     (λ c κs. search needs)
+    (λ c. refl)
+    (λ c κs. tt)
+    (λ c. search needs)
     (λ c. search needs)
     (λ c κs. search needs)
-    (λ c. search needs)
-    (λ c. search needs)
-    (λ c κs. search needs)
-    (λ c. search needs)
-    (λ c κs. search needs)
+    (λ c. refl)
+    (λ c κs. tt)
     (λ c. search needs)
     (λ c.
     let c₄ = c .before .before in

@@ -1,3 +1,4 @@
+use mathlib.Core.Path.{refl}
 use borrow.Author.Needs.{needs}
 use Rattle.emission.specs.Lookups.{coordinateText}
 use Rattle.emission.proofs.coordinates.put_coordinate.Statement.{statement}
@@ -9,16 +10,16 @@ put-coordinate-spec =
     tie.close
     (tie.spec
     (λ c. search needs)
-    (λ c. search needs)
+    (λ c. refl)
     (λ c κs. search needs)
     (λ c. search needs)
-    (λ c. search needs)
+    (λ c. refl)
     (λ c κs. search needs)
     (λ c. search needs)
-    (λ c. search needs)
+    (λ c. refl)
     (λ c κs. search needs)
     (λ c. search needs)
-    (λ c. search needs)
+    (λ c. refl)
     (λ c κs. search needs)
     (λ c. search needs)
     (λ c. rw (c .before .before .before .before .before .enum-told .given .1) (c .before .before .put-numbered .ensures))

@@ -7,7 +7,7 @@ pub put-numbered-spec : {M : Type 1} → statement M
 put-numbered-spec =
     tie.close
     (tie.spec
-    (λ c κs. search needs)
+    (λ c κs. tt)
     (λ c κs. search needs)
     (λ c. search needs)
     (λ c. c .before .before .before .before .before .before .put .ensures ⨾ c .before .before .put-digit .ensures))

@@ -8,7 +8,7 @@ put-tested-quotient-spec =
     tie.close
     (tie.spec
     (λ c κs. search needs)
-    (λ c κs. search needs)
+    (λ c κs. tt)
     (λ c κs. search needs)
     (λ c. search needs)
     (λ c.

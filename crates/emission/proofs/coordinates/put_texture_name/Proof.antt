@@ -1,3 +1,4 @@
+use mathlib.Core.Path.{refl}
 use borrow.Author.Needs.{needs}
 use Rattle.emission.specs.Lookups.{textureName}
 use Rattle.emission.proofs.coordinates.put_texture_name.Statement.{statement}
@@ -8,7 +9,7 @@ unfolding textureName
 put-texture-name-spec =
     tie.close
     (tie.spec
-    (λ c. search needs)
+    (λ c. refl)
     (λ c κs. search needs)
     (λ c. search needs)
     (λ c. c .before .before .put-numbered .ensures))

@@ -1,5 +1,6 @@
 use Rattle.emission.proofs.Laws.{regroup}
 use Rattle.text.proofs.Laws.{_⨾_, pick-true, pick-false}
+use mathlib.Core.Path.{refl}
 use borrow.Author.Needs.{needs}
 use Rattle.emission.specs.Lookups.{uvText}
 use Rattle.emission.proofs.coordinates.put_uv.Statement.{statement}
@@ -10,17 +11,17 @@ unfolding uvText
 put-uv-spec =
     tie.close
     (tie.spec
-    (λ c. search needs)
+    (λ c. refl)
+    (λ c κs. tt)
+    (λ c. refl)
     (λ c κs. search needs)
-    (λ c. search needs)
-    (λ c κs. search needs)
-    (λ c. search needs)
-    (λ c κs. search needs)
-    (λ c. search needs)
-    (λ c. search needs)
-    (λ c κs. search needs)
-    (λ c. search needs)
-    (λ c κs. search needs)
+    (λ c. refl)
+    (λ c κs. tt)
+    (λ c. refl)
+    (λ c. refl)
+    (λ c κs. tt)
+    (λ c. refl)
+    (λ c κs. tt)
     (λ c κs. search needs)
     (λ c. search needs)
     (λ c.
@@ -29,6 +30,7 @@ put-uv-spec =
     let c₃ = c₄ .before .before .before .before .before .before in
     let c₂ = c₃ .before .before .before .before .before in
     let c₁ = c₂ .before .before .before .before .before in
-    pick-true (c₁ .before .before .before .if1 .taken) (c₁ .put .ensures ⨾ regroup (c₂ .put-tested-quotient .ensures ⨾ c₃ .put2 .ensures ⨾ c₄ .put-either .ensures ⨾ c₅ .put3 .ensures)))
+    pick-true (c₁ .before .before .before .if1 .taken) (c₁ .put .ensures ⨾ regroup (c₂ .put-tested-quotient .ensures ⨾ c₃ .put2 .ensures
+    ⨾ c₄ .put-either .ensures ⨾ c₅ .put3 .ensures)))
     (λ c. search needs)
     (λ c. pick-false (c .before .before .before .before .if1 .left) (c .before .before .put-swizzled .ensures)))

@@ -25,14 +25,30 @@ lookup-of-spec =
     rw (sym (d .before .before .bit2 .ensures) ∙ d .before .if1 .left, sym (d .bit4 .ensures) ∙ c .before .if3 .taken, c .bit5 .ensures))
     (λ c.
     let d = c .before .before in
-    rw (sym (d .before .before .bit2 .ensures) ∙ d .before .if1 .left, sym (d .bit4 .ensures) ∙ c .before .if3 .left, sym (d .before .before .before .bit .ensures) ∙ c .if4 .taken))
+    rw (
+      sym (d .before .before .bit2 .ensures) ∙ d .before .if1 .left,
+      sym (d .bit4 .ensures) ∙ c .before .if3 .left,
+      sym (d .before .before .before .bit .ensures) ∙ c .if4 .taken,
+    ))
     (λ c κs. search needs)
     (λ c κs. search needs)
     (λ c.
     let e = c .before .before .before in
     let d = e .before .before in
-    rw (sym (d .before .before .bit2 .ensures) ∙ d .before .if1 .left, sym (d .bit4 .ensures) ∙ e .before .if3 .left, sym (d .before .before .before .bit .ensures) ∙ e .if4 .left, sym (c .before .before .bit6 .ensures) ∙ c .if5 .taken, c .if5 .taken))
+    rw (
+      sym (d .before .before .bit2 .ensures) ∙ d .before .if1 .left,
+      sym (d .bit4 .ensures) ∙ e .before .if3 .left,
+      sym (d .before .before .before .bit .ensures) ∙ e .if4 .left,
+      sym (c .before .before .bit6 .ensures) ∙ c .if5 .taken,
+      c .if5 .taken,
+    ))
     (λ c.
     let e = c .before .before .before in
     let d = e .before .before in
-    rw (sym (d .before .before .bit2 .ensures) ∙ d .before .if1 .left, sym (d .bit4 .ensures) ∙ e .before .if3 .left, sym (d .before .before .before .bit .ensures) ∙ e .if4 .left, sym (c .before .before .bit6 .ensures) ∙ c .if5 .left, c .before .bit7 .ensures)))
+    rw (
+      sym (d .before .before .bit2 .ensures) ∙ d .before .if1 .left,
+      sym (d .bit4 .ensures) ∙ e .before .if3 .left,
+      sym (d .before .before .before .bit .ensures) ∙ e .if4 .left,
+      sym (c .before .before .bit6 .ensures) ∙ c .if5 .left,
+      c .before .bit7 .ensures,
+    )))

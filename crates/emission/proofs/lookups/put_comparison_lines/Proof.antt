@@ -13,6 +13,8 @@ put-comparison-lines-spec =
     (λ c κs. search needs)
     (λ c κs. search needs)
     (λ c. search needs)
-    (λ c. pick-true (c .before .before .before .before .before .before .before .before .if1 .taken) (c .before .before .before .before .before .before .put-projected-line .ensures ⨾ c .before .before .put-compare-line .ensures))
+    (λ c.
+    pick-true (c .before .before .before .before .before .before .before .before .if1 .taken)
+    (c .before .before .before .before .before .before .put-projected-line .ensures ⨾ c .before .before .put-compare-line .ensures))
     (λ c. search needs)
     (λ c. pick-false (c .before .before .before .before .if1 .left) (c .before .before .put-compare-line2 .ensures)))

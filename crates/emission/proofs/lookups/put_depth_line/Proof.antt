@@ -1,5 +1,6 @@
 use Rattle.emission.proofs.Laws.{regroup}
 use Rattle.text.proofs.Laws.{_⨾_}
+use mathlib.Core.Path.{refl}
 use borrow.Author.Needs.{needs}
 use Rattle.emission.specs.Lookups.{lookupText, texelLine}
 use Rattle.emission.proofs.lookups.put_depth_line.Statement.{statement}
@@ -12,8 +13,8 @@ put-depth-line-spec =
     (tie.spec
     (λ c κs. search needs)
     (λ c κs. search needs)
-    (λ c. search needs)
-    (λ c κs. search needs)
+    (λ c. refl)
+    (λ c κs. tt)
     (λ c. search needs)
     (λ c.
     let c₃ = c .before .before in

@@ -1,4 +1,5 @@
 use Rattle.text.proofs.Laws.{_⨾_}
+use mathlib.Core.Path.{refl}
 use borrow.Author.Needs.{needs}
 use Rattle.emission.proofs.lookups.put_depth_texel.Statement.{statement}
 use Rattle.emission.proofs.lookups.put_depth_texel.Tie as tie
@@ -7,13 +8,13 @@ pub put-depth-texel-spec : {M : Type 1} → statement M
 put-depth-texel-spec =
     tie.close
     (tie.spec
-    (λ c. search needs)
+    (λ c. refl)
+    (λ c κs. tt)
     (λ c κs. search needs)
-    (λ c κs. search needs)
-    (λ c. search needs)
-    (λ c κs. search needs)
-    (λ c. search needs)
-    (λ c κs. search needs)
+    (λ c. refl)
+    (λ c κs. tt)
+    (λ c. refl)
+    (λ c κs. tt)
     (λ c. search needs)
     (λ c.
     let c₄ = c .before .before in

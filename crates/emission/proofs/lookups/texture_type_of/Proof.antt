@@ -16,7 +16,15 @@ texture-type-of-spec =
     (λ c κs. search needs)
     (λ c.
     let d = c .before .before in
-    rw (sym (d .before .before .before .bit .ensures) ∙ d .before .before .if1 .left, sym (d .before .bit2 .ensures) ∙ d .if2 .left, sym (c .before .bit3 .ensures) ∙ c .if3 .taken))
+    rw (
+      sym (d .before .before .before .bit .ensures) ∙ d .before .before .if1 .left,
+      sym (d .before .bit2 .ensures) ∙ d .if2 .left,
+      sym (c .before .bit3 .ensures) ∙ c .if3 .taken,
+    ))
     (λ c.
     let d = c .before .before in
-    rw (sym (d .before .before .before .bit .ensures) ∙ d .before .before .if1 .left, sym (d .before .bit2 .ensures) ∙ d .if2 .left, sym (c .before .bit3 .ensures) ∙ c .if3 .left)))
+    rw (
+      sym (d .before .before .before .bit .ensures) ∙ d .before .before .if1 .left,
+      sym (d .before .bit2 .ensures) ∙ d .if2 .left,
+      sym (c .before .bit3 .ensures) ∙ c .if3 .left,
+    )))

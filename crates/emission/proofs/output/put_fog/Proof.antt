@@ -1,3 +1,4 @@
+use mathlib.Core.Path.{refl}
 use borrow.Author.Tests.{eq-eqb, ne-eqb}
 use Rattle.text.proofs.Laws.{_⨾_, pick-true, pick-false}
 use borrow.Author.Needs.{needs}
@@ -10,13 +11,13 @@ unfolding fogText
 put-fog-spec =
     tie.close
     (tie.spec
-    (λ c. search needs)
+    (λ c. refl)
+    (λ c κs. tt)
     (λ c κs. search needs)
     (λ c κs. search needs)
     (λ c κs. search needs)
-    (λ c κs. search needs)
-    (λ c. search needs)
-    (λ c κs. search needs)
+    (λ c. refl)
+    (λ c κs. tt)
     (λ c. search needs)
     (λ c. pick-true (eq-eqb _ _ (c .before .before .before .before .before .before .if1 .taken)) (c .before .before .put-when .ensures))
     (λ c. search needs)
@@ -25,4 +26,5 @@ put-fog-spec =
     let c₃ = c₄ .before .before .before .before .before in
     let c₂ = c₃ .before .before .before .before in
     let c₁ = c₂ .before .before in
-    rw (← c₁ .fog-source-w .ensures) (pick-false (ne-eqb _ _ (c₁ .before .if1 .left)) (c₂ .put-fog-depth .ensures ⨾ c₃ .put-fog-factor .ensures ⨾ c₄ .put .ensures))))
+    rw (← c₁ .fog-source-w .ensures) (pick-false (ne-eqb _ _ (c₁ .before .if1 .left)) (c₂ .put-fog-depth .ensures ⨾ c₃ .put-fog-factor .ensures
+    ⨾ c₄ .put .ensures))))

@@ -1,3 +1,4 @@
+use mathlib.Core.Path.{refl}
 use borrow.Author.Needs.{needs}
 use Rattle.emission.specs.Output.{fogDepthText}
 use Rattle.emission.proofs.output.put_fog_depth.Statement.{statement}
@@ -8,8 +9,8 @@ unfolding fogDepthText
 put-fog-depth-spec =
     tie.close
     (tie.spec
-    (λ c. search needs)
-    (λ c. search needs)
-    (λ c κs. search needs)
+    (λ c. refl)
+    (λ c. refl)
+    (λ c κs. tt)
     (λ c. search needs)
     (λ c. c .before .before .put-either .ensures))

@@ -1,4 +1,4 @@
-use Rattle.text.proofs.Laws.{_⨾_, pick-true, pick-false}
+use Rattle.text.proofs.Laws.{_⨾_, same, pick-false}
 use mathlib.Core.Path.{refl}
 use borrow.Author.Tests.{ne-eqb}
 use borrow.Author.Needs.{needs}
@@ -11,23 +11,23 @@ unfolding fogFactorText
 put-fog-factor-spec =
     tie.close
     (tie.spec
+    (λ c. refl)
+    (λ c κs. tt)
+    (λ c. refl)
+    (λ c κs. tt)
+    (λ c. refl)
+    (λ c κs. tt)
+    (λ c. refl)
+    (λ c κs. tt)
+    (λ c. refl)
+    (λ c κs. tt)
     (λ c. search needs)
-    (λ c κs. search needs)
-    (λ c. search needs)
-    (λ c κs. search needs)
-    (λ c. search needs)
-    (λ c κs. search needs)
-    (λ c. search needs)
-    (λ c κs. search needs)
-    (λ c. search needs)
-    (λ c κs. search needs)
-    (λ c. search needs)
-    (λ c. rw (c .before .before .before .before .before .match .keys1) (pick-true refl (c .before .before .put .ensures)))
+    (λ c. rw (c .before .before .before .before .before .match .keys1) (same refl (c .before .before .put .ensures)))
     (λ c. search needs)
     (λ c.
     let c₂ = c .before .before in
     let c₁ = c₂ .before .before .before .before .before in
-    rw (c₁ .before .before .before .match .keys2) (pick-false refl (pick-true refl (c₁ .put2 .ensures ⨾ c₂ .put3 .ensures))))
+    rw (c₁ .before .before .before .match .keys2) (same refl (c₁ .put2 .ensures ⨾ c₂ .put3 .ensures)))
     (λ c. search needs)
     (λ c.
     let c₂ = c .before .before in

@@ -1,4 +1,5 @@
 use Rattle.text.proofs.Laws.{_⨾_}
+use mathlib.Core.Path.{refl}
 use borrow.Author.Needs.{needs}
 use Rattle.emission.specs.Output.{outputText}
 use Rattle.emission.proofs.output.put_output.Statement.{statement}
@@ -11,8 +12,8 @@ put-output-spec =
     (tie.spec
     (λ c κs. search needs)
     (λ c κs. search needs)
-    (λ c. search needs)
-    (λ c κs. search needs)
+    (λ c. refl)
+    (λ c κs. tt)
     (λ c κs. search needs)
     (λ c κs. search needs)
     (λ c κs. search needs)
@@ -26,4 +27,5 @@ put-output-spec =
     let c₃ = c₄ .before .before .before .before in
     let c₂ = c₃ .before .before .before .before .before in
     let c₁ = c₂ .before .before in
-    rw (← c₁ .srgb-write .ensures) (c₂ .put-specular .ensures ⨾ c₃ .put .ensures ⨾ c₄ .put-fog .ensures ⨾ c₅ .put-test .ensures ⨾ c₆ .put-srgb .ensures ⨾ c₇ .put-return .ensures)))
+    rw (← c₁ .srgb-write .ensures) (c₂ .put-specular .ensures ⨾ c₃ .put .ensures ⨾ c₄ .put-fog .ensures ⨾ c₅ .put-test .ensures
+    ⨾ c₆ .put-srgb .ensures ⨾ c₇ .put-return .ensures)))

@@ -1,3 +1,4 @@
+use mathlib.Core.Path.{refl}
 use borrow.Author.Needs.{needs}
 use Rattle.emission.specs.Output.{specularText}
 use Rattle.emission.proofs.output.put_specular.Statement.{statement}
@@ -8,7 +9,7 @@ unfolding specularText
 put-specular-spec =
     tie.close
     (tie.spec
-    (λ c. search needs)
-    (λ c κs. search needs)
+    (λ c. refl)
+    (λ c κs. tt)
     (λ c. search needs)
     (λ c. c .before .before .put-when .ensures))

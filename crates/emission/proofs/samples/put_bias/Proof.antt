@@ -1,4 +1,5 @@
 use Rattle.text.proofs.Laws.{_⨾_, pick-true, pick-false, nothing}
+use mathlib.Core.Path.{refl}
 use native.Mathlib.Omega.{arith}
 use borrow.Author.Needs.{needs}
 use Rattle.emission.proofs.samples.put_bias.Statement.{statement}
@@ -8,11 +9,11 @@ pub put-bias-spec : {M : Type 1} → statement M
 put-bias-spec =
     tie.close
     (tie.spec
-    (λ c. search needs)
+    (λ c. refl)
+    (λ c κs. tt)
     (λ c κs. search needs)
-    (λ c κs. search needs)
-    (λ c. search needs)
-    (λ c κs. search needs)
+    (λ c. refl)
+    (λ c κs. tt)
     (λ c. search needs)
     (λ c.
     let c₃ = c .before .before in

@@ -1,5 +1,6 @@
 use Rattle.emission.proofs.Laws.{regroup}
 use Rattle.text.proofs.Laws.{_⨾_}
+use mathlib.Core.Path.{refl}
 use borrow.Author.Needs.{needs}
 use Rattle.emission.specs.Lookups.{compareText}
 use Rattle.emission.proofs.samples.put_compare.Statement.{statement}
@@ -10,18 +11,18 @@ unfolding compareText
 put-compare-spec =
     tie.close
     (tie.spec
-    (λ c. search needs)
+    (λ c. refl)
+    (λ c κs. tt)
+    (λ c. refl)
     (λ c κs. search needs)
-    (λ c. search needs)
+    (λ c. refl)
+    (λ c κs. tt)
     (λ c κs. search needs)
-    (λ c. search needs)
+    (λ c. refl)
+    (λ c κs. tt)
     (λ c κs. search needs)
-    (λ c κs. search needs)
-    (λ c. search needs)
-    (λ c κs. search needs)
-    (λ c κs. search needs)
-    (λ c. search needs)
-    (λ c κs. search needs)
+    (λ c. refl)
+    (λ c κs. tt)
     (λ c. search needs)
     (λ c.
     let c₇ = c .before .before in
@@ -31,4 +32,5 @@ put-compare-spec =
     let c₃ = c₄ .before .before .before .before in
     let c₂ = c₃ .before .before .before .before .before in
     let c₁ = c₂ .before .before .before .before .before in
-    c₁ .put .ensures ⨾ regroup (c₂ .put-call .ensures ⨾ c₃ .put2 .ensures ⨾ c₄ .put-reference .ensures ⨾ c₅ .put3 .ensures ⨾ c₆ .put-level .ensures ⨾ c₇ .put4 .ensures)))
+    c₁ .put .ensures ⨾ regroup (c₂ .put-call .ensures ⨾ c₃ .put2 .ensures ⨾ c₄ .put-reference .ensures ⨾ c₅ .put3 .ensures ⨾ c₆ .put-level .ensures
+    ⨾ c₇ .put4 .ensures)))

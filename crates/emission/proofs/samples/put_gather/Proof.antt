@@ -1,5 +1,6 @@
 use Rattle.emission.proofs.Laws.{regroup}
 use Rattle.text.proofs.Laws.{_⨾_}
+use mathlib.Core.Path.{refl}
 use borrow.Author.Needs.{needs}
 use Rattle.emission.specs.Lookups.{gatherText}
 use Rattle.emission.proofs.samples.put_gather.Statement.{statement}
@@ -10,18 +11,18 @@ unfolding gatherText
 put-gather-spec =
     tie.close
     (tie.spec
-    (λ c. search needs)
+    (λ c. refl)
     (λ c κs. search needs)
-    (λ c. search needs)
+    (λ c. refl)
+    (λ c κs. tt)
     (λ c κs. search needs)
+    (λ c. refl)
+    (λ c κs. tt)
     (λ c κs. search needs)
-    (λ c. search needs)
-    (λ c κs. search needs)
-    (λ c κs. search needs)
-    (λ c. search needs)
-    (λ c κs. search needs)
-    (λ c. search needs)
-    (λ c κs. search needs)
+    (λ c. refl)
+    (λ c κs. tt)
+    (λ c. refl)
+    (λ c κs. tt)
     (λ c. search needs)
     (λ c.
     let c₇ = c .before .before in
@@ -31,4 +32,5 @@ put-gather-spec =
     let c₃ = c₄ .before .before .before .before .before in
     let c₂ = c₃ .before .before .before .before in
     let c₁ = c₂ .before .before .before .before .before in
-    regroup (c₁ .put-call .ensures ⨾ c₂ .put .ensures ⨾ c₃ .put-uv .ensures ⨾ c₄ .put2 .ensures ⨾ c₅ .put-half-texel .ensures ⨾ c₆ .put-when .ensures ⨾ c₇ .put3 .ensures)))
+    regroup (c₁ .put-call .ensures ⨾ c₂ .put .ensures ⨾ c₃ .put-uv .ensures ⨾ c₄ .put2 .ensures ⨾ c₅ .put-half-texel .ensures ⨾ c₆ .put-when .ensures
+    ⨾ c₇ .put3 .ensures)))

@@ -1,4 +1,5 @@
 use Rattle.text.proofs.Laws.{_⨾_, pick-true, pick-false}
+use mathlib.Core.Path.{refl}
 use borrow.Author.Needs.{needs}
 use Rattle.emission.specs.Lookups.{levelText}
 use Rattle.emission.proofs.samples.put_level.Statement.{statement}
@@ -9,13 +10,13 @@ unfolding levelText
 put-level-spec =
     tie.close
     (tie.spec
-    (λ c. search needs)
+    (λ c. refl)
+    (λ c κs. tt)
     (λ c κs. search needs)
-    (λ c κs. search needs)
-    (λ c. search needs)
-    (λ c κs. search needs)
-    (λ c. search needs)
-    (λ c κs. search needs)
+    (λ c. refl)
+    (λ c κs. tt)
+    (λ c. refl)
+    (λ c κs. tt)
     (λ c. search needs)
     (λ c.
     let c₃ = c .before .before in

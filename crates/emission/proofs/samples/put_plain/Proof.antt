@@ -1,5 +1,6 @@
 use Rattle.emission.proofs.Laws.{regroup}
 use Rattle.text.proofs.Laws.{_⨾_}
+use mathlib.Core.Path.{refl}
 use borrow.Author.Needs.{needs}
 use Rattle.emission.specs.Lookups.{plainText}
 use Rattle.emission.proofs.samples.put_plain.Statement.{statement}
@@ -10,14 +11,14 @@ unfolding plainText
 put-plain-spec =
     tie.close
     (tie.spec
-    (λ c. search needs)
+    (λ c. refl)
     (λ c κs. search needs)
-    (λ c. search needs)
+    (λ c. refl)
+    (λ c κs. tt)
     (λ c κs. search needs)
     (λ c κs. search needs)
-    (λ c κs. search needs)
-    (λ c. search needs)
-    (λ c κs. search needs)
+    (λ c. refl)
+    (λ c κs. tt)
     (λ c. search needs)
     (λ c.
     let c₅ = c .before .before in

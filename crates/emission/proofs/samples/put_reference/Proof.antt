@@ -1,4 +1,5 @@
 use Rattle.text.proofs.Laws.{_⨾_}
+use mathlib.Core.Path.{refl}
 use borrow.Author.Needs.{needs}
 use Rattle.emission.proofs.samples.put_reference.Statement.{statement}
 use Rattle.emission.proofs.samples.put_reference.Tie as tie
@@ -8,11 +9,11 @@ put-reference-spec =
     tie.close
     (tie.spec
     (λ c κs. search needs)
-    (λ c. search needs)
+    (λ c. refl)
+    (λ c κs. tt)
     (λ c κs. search needs)
-    (λ c κs. search needs)
-    (λ c. search needs)
-    (λ c κs. search needs)
+    (λ c. refl)
+    (λ c κs. tt)
     (λ c. search needs)
     (λ c.
     let c₄ = c .before .before in

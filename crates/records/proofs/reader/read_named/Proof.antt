@@ -1,0 +1,51 @@
+use mathlib.Core.Path.{_∙_}
+use Rattle.records.specs.declared.Kind.the-variants as kind
+use Rattle.records.proofs.Laws.{read-known, read-unknown}
+use borrow.Author.Needs.{needs}
+use Rattle.records.proofs.reader.read_named.Statement.{statement}
+use Rattle.records.proofs.reader.read_named.Tie as tie
+
+read-as-requires : tie.Need-read-as-requires
+read-as-requires c κs = search needs
+
+read-as-requires-2 : tie.Need-read-as-requires-2
+read-as-requires-2 c κs = search needs
+
+read-as-requires-3 : tie.Need-read-as-requires-3
+read-as-requires-3 c κs = search needs
+
+read-as-requires-4 : tie.Need-read-as-requires-4
+read-as-requires-4 c κs = search needs
+
+refuse-requires : tie.Need-refuse-requires
+refuse-requires c κs = search needs
+
+returns : tie.Need-returns
+returns c = c .read-as .ensures ∙ read-known kind.Key _ (c .before .match .keys1)
+
+returns-2 : tie.Need-returns-2
+returns-2 c = c .read-as2 .ensures ∙ read-known kind.Variant _ (c .before .match .keys2)
+
+returns-3 : tie.Need-returns-3
+returns-3 c = c .read-as3 .ensures ∙ read-known kind.Entry _ (c .before .match .keys3)
+
+returns-4 : tie.Need-returns-4
+returns-4 c = c .read-as4 .ensures ∙ read-known kind.Emit _ (c .before .match .keys4)
+
+returns-5 : tie.Need-returns-5
+returns-5 c = c .refuse .ensures ∙ read-unknown _ (c .before .match .rest .0 .0 .0 .1) (c .before .match .rest .0 .0 .1) (c .before .match .rest .0 .1) (c .before .match .rest .1)
+
+pub read-named-spec : {M : Type 1} → statement M
+read-named-spec =
+    tie.close
+    (tie.spec
+    read-as-requires
+    read-as-requires-2
+    read-as-requires-3
+    read-as-requires-4
+    refuse-requires
+    returns
+    returns-2
+    returns-3
+    returns-4
+    returns-5)

@@ -1,0 +1,60 @@
+use mathlib.Core.Path.{refl, sym, _∙_}
+use native.Mathlib.Omega.{arith}
+use lib.ListN.{length-map}
+use Rattle.text.proofs.Laws.{whole}
+use Rattle.records.specs.Bodies.{Shaped}
+use Rattle.records.proofs.Laws.{write-bad, write-short, write-whole, record-length}
+use borrow.Author.Needs.{needs}
+use Rattle.records.proofs.writer.write.Statement.{statement}
+use Rattle.records.proofs.writer.write.Tie as tie
+
+shaped : (s : tie.Start) → Shaped (s .args .made)
+shaped s =
+    record {
+      stages = sym (length-map (s .args .made .key .stages) _) ∙ s .good .0 .1 .1 .1 .0 .1 .1 .0 .1 .0 .1;
+      name = sym (length-map (s .args .made .entry .name) _) ∙ s .good .0 .1 .1 .1 .1 .1 .0 .1 .1 .1 .0 .1 .0 .1;
+    }
+
+record-length-requires : tie.Need-record-length-requires
+record-length-requires c κs = search needs
+
+check-requires : tie.Need-check-requires
+check-requires c κs = search needs
+
+enum-known-refusal : tie.Need-enum-known-refusal
+enum-known-refusal c = search needs
+
+enum-told : tie.Need-enum-told
+enum-told c = search needs
+
+returns : tie.Need-returns
+returns c = (write-short _ _ (c .before .before .before .check .ensures) (c .before .enum-told .given .1) (c .before .before .before .before .record-length .ensures) (c .if1 .taken), refl)
+
+put-record-requires : tie.Need-put-record-requires
+put-record-requires c κs = search needs
+
+returns-2 : tie.Need-returns-2
+returns-2 c = (write-bad _ _ (c .before .before .before .check .ensures) (c .before .refusal .given .1), refl)
+
+same-length : tie.Need-same-length
+same-length c = search needs
+
+returns-3 : tie.Need-returns-3
+returns-3 c =
+    let s = c .before .before .before .before .before .before .before .before .before .before in
+    let e = record-length (s .args .made) (shaped s) in
+    (write-whole _ _ (c .before .before .before .before .before .before .before .check .ensures) (c .before .before .before .before .before .enum-told .given .1) (c .before .before .before .before .before .before .before .before .record-length .ensures) (c .before .before .before .before .if1 .left), whole (c .before .before .put-record .ensures) (omega (arith, e, c .before .before .before .before .before .before .before .before .record-length .ensures, c .before .before .before .before .if1 .left)))
+
+pub write-spec : {M : Type 1} → statement M
+write-spec =
+    tie.close
+    (tie.spec
+    record-length-requires
+    check-requires
+    enum-known-refusal
+    enum-told
+    returns
+    put-record-requires
+    returns-2
+    same-length
+    returns-3)
