@@ -70,8 +70,8 @@ emit-spec =
     returns-2
     (λ c κs. search needs)
     returns-3
-    (λ c κs. search needs)
-    (λ c. search needs)
+    (λ c κs. tt)
+    (λ c. refl)
     put-whole-requires
     returns-4
     put-whole-requires-2

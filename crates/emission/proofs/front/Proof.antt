@@ -1,7 +1,6 @@
-use mathlib.Core.Path.{sym}
+use mathlib.Core.Path.{sym, refl}
 use lib.Seq.{length-take-le}
 use borrow.Author.Tests.{le-leb, lt-leb}
-use borrow.Author.Needs.{needs}
 use Rattle.emission.proofs.front.Statement.{statement}
 use Rattle.emission.proofs.front.Tie as tie
 
@@ -10,6 +9,6 @@ front-spec =
     tie.close
     (tie.spec
     (λ c. sym (length-take-le _ _ (c .before .if1 .taken)))
-    (λ c. search needs)
+    (λ c. refl)
     (λ c. rw (le-leb _ _ (c .before .if1 .taken)))
     (λ c. rw (lt-leb _ _ (c .before .if1 .left))))

@@ -1,4 +1,3 @@
-use borrow.Author.Needs.{needs}
 use Rattle.cascade.proofs.decode.combined.Statement.{statement}
 use Rattle.cascade.proofs.decode.combined.Tie as tie
 
@@ -6,7 +5,7 @@ pub combined-spec : {M : Type 1} → statement M
 combined-spec =
     tie.close
     (tie.spec
-    (λ c κs. search needs)
-    (λ c κs. search needs)
-    (λ c κs. search needs)
+    (λ c κs. tt)
+    (λ c κs. tt)
+    (λ c κs. tt)
     (λ c. cc))

@@ -2,7 +2,6 @@ use mathlib.Core.Bool.{true, false}
 use mathlib.Core.Path.{_≡_}
 use Rattle.cascade.specs.Keys.{bump}
 use Rattle.cascade.specs.Stages.{decode}
-use borrow.Author.Needs.{needs}
 use Rattle.cascade.proofs.decode.decode.Statement.{statement}
 use Rattle.cascade.proofs.decode.decode.Tie as tie
 
@@ -11,9 +10,9 @@ unfolding decode
 decode-spec =
     tie.close
     (tie.spec
-    (λ c κs. search needs)
+    (λ c κs. tt)
     (λ c. let h : bump (c .before .before .args .s) ≡ true = cc in rw h)
-    (λ c κs. search needs)
-    (λ c κs. search needs)
-    (λ c κs. search needs)
+    (λ c κs. tt)
+    (λ c κs. tt)
+    (λ c κs. tt)
     (λ c. let h : bump (c .before .before .before .before .before .args .s) ≡ false = cc in rw h (cc)))

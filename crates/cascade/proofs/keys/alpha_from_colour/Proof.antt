@@ -1,5 +1,4 @@
 use Rattle.cascade.specs.Keys.{alphaFromColour}
-use borrow.Author.Needs.{needs}
 use Rattle.cascade.proofs.keys.alpha_from_colour.Statement.{statement}
 use Rattle.cascade.proofs.keys.alpha_from_colour.Tie as tie
 
@@ -8,6 +7,6 @@ unfolding alphaFromColour
 alpha-from-colour-spec =
     tie.close
     (tie.spec
-    (λ c κs. search needs)
-    (λ c κs. search needs)
+    (λ c κs. tt)
+    (λ c κs. tt)
     (λ c. cc))

@@ -1,5 +1,4 @@
 use Rattle.cascade.specs.Keys.{fallsBack}
-use borrow.Author.Needs.{needs}
 use Rattle.cascade.proofs.keys.falls_back.Statement.{statement}
 use Rattle.cascade.proofs.keys.falls_back.Tie as tie
 
@@ -8,5 +7,5 @@ unfolding fallsBack
 falls-back-spec =
     tie.close
     (tie.spec
-    (λ c κs. search needs)
+    (λ c κs. tt)
     (λ c. cc))

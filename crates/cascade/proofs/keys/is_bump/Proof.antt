@@ -1,5 +1,4 @@
 use Rattle.cascade.specs.Keys.{bump}
-use borrow.Author.Needs.{needs}
 use Rattle.cascade.proofs.keys.is_bump.Statement.{statement}
 use Rattle.cascade.proofs.keys.is_bump.Tie as tie
 
@@ -8,7 +7,7 @@ unfolding bump
 is-bump-spec =
     tie.close
     (tie.spec
-    (λ c κs. search needs)
-    (λ c κs. search needs)
-    (λ c κs. search needs)
+    (λ c κs. tt)
+    (λ c κs. tt)
+    (λ c κs. tt)
     (λ c. cc))

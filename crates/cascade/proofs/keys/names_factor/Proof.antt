@@ -1,5 +1,4 @@
 use Rattle.cascade.specs.Keys.{namesFactor}
-use borrow.Author.Needs.{needs}
 use Rattle.cascade.proofs.keys.names_factor.Statement.{statement}
 use Rattle.cascade.proofs.keys.names_factor.Tie as tie
 
@@ -8,8 +7,8 @@ unfolding namesFactor
 names-factor-spec =
     tie.close
     (tie.spec
-    (λ c κs. search needs)
-    (λ c κs. search needs)
-    (λ c κs. search needs)
-    (λ c κs. search needs)
+    (λ c κs. tt)
+    (λ c κs. tt)
+    (λ c κs. tt)
+    (λ c κs. tt)
     (λ c. cc))

@@ -1,5 +1,4 @@
 use Rattle.cascade.specs.Keys.{reads}
-use borrow.Author.Needs.{needs}
 use Rattle.cascade.proofs.keys.reads.Statement.{statement}
 use Rattle.cascade.proofs.keys.reads.Tie as tie
 
@@ -8,6 +7,6 @@ unfolding reads
 reads-spec =
     tie.close
     (tie.spec
-    (λ c κs. search needs)
-    (λ c κs. search needs)
+    (λ c κs. tt)
+    (λ c κs. tt)
     (λ c. cc))

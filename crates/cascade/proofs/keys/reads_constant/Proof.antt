@@ -1,5 +1,4 @@
 use Rattle.cascade.specs.Keys.{readsConstant}
-use borrow.Author.Needs.{needs}
 use Rattle.cascade.proofs.keys.reads_constant.Statement.{statement}
 use Rattle.cascade.proofs.keys.reads_constant.Tie as tie
 
@@ -8,10 +7,10 @@ unfolding readsConstant
 reads-constant-spec =
     tie.close
     (tie.spec
-    (λ c κs. search needs)
-    (λ c κs. search needs)
-    (λ c κs. search needs)
-    (λ c κs. search needs)
-    (λ c κs. search needs)
-    (λ c κs. search needs)
+    (λ c κs. tt)
+    (λ c κs. tt)
+    (λ c κs. tt)
+    (λ c κs. tt)
+    (λ c κs. tt)
+    (λ c κs. tt)
     (λ c. cc))

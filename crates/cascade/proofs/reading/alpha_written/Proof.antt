@@ -1,5 +1,4 @@
 use Rattle.cascade.specs.Reading.{alphaWritten}
-use borrow.Author.Needs.{needs}
 use Rattle.cascade.proofs.reading.alpha_written.Statement.{statement}
 use Rattle.cascade.proofs.reading.alpha_written.Tie as tie
 
@@ -8,8 +7,8 @@ unfolding alphaWritten
 alpha-written-spec =
     tie.close
     (tie.spec
-    (λ c κs. search needs)
-    (λ c κs. search needs)
-    (λ c κs. search needs)
-    (λ c κs. search needs)
+    (λ c κs. tt)
+    (λ c κs. tt)
+    (λ c κs. tt)
+    (λ c κs. tt)
     (λ c. cc))

@@ -1,5 +1,4 @@
 use Rattle.cascade.specs.Reading.{lined}
-use borrow.Author.Needs.{needs}
 use Rattle.cascade.proofs.reading.is_lined.Statement.{statement}
 use Rattle.cascade.proofs.reading.is_lined.Tie as tie
 
@@ -8,5 +7,5 @@ unfolding lined
 is-lined-spec =
     tie.close
     (tie.spec
-    (λ c κs. search needs)
+    (λ c κs. tt)
     (λ c. cc))

@@ -1,5 +1,4 @@
 use Rattle.cascade.specs.Reading.{keeps}
-use borrow.Author.Needs.{needs}
 use Rattle.cascade.proofs.reading.keeps.Statement.{statement}
 use Rattle.cascade.proofs.reading.keeps.Tie as tie
 
@@ -8,8 +7,8 @@ unfolding keeps
 keeps-spec =
     tie.close
     (tie.spec
-    (λ c κs. search needs)
-    (λ c κs. search needs)
-    (λ c κs. search needs)
-    (λ c κs. search needs)
+    (λ c κs. tt)
+    (λ c κs. tt)
+    (λ c κs. tt)
+    (λ c κs. tt)
     (λ c. cc))

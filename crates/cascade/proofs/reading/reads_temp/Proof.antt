@@ -1,5 +1,4 @@
 use Rattle.cascade.specs.Reading.{readsTemp}
-use borrow.Author.Needs.{needs}
 use Rattle.cascade.proofs.reading.reads_temp.Statement.{statement}
 use Rattle.cascade.proofs.reading.reads_temp.Tie as tie
 
@@ -8,8 +7,8 @@ unfolding readsTemp
 reads-temp-spec =
     tie.close
     (tie.spec
-    (λ c κs. search needs)
-    (λ c κs. search needs)
-    (λ c κs. search needs)
-    (λ c κs. search needs)
+    (λ c κs. tt)
+    (λ c κs. tt)
+    (λ c κs. tt)
+    (λ c κs. tt)
     (λ c. cc))

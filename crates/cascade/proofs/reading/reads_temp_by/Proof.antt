@@ -1,4 +1,3 @@
-use borrow.Author.Needs.{needs}
 use Rattle.cascade.proofs.reading.reads_temp_by.Statement.{statement}
 use Rattle.cascade.proofs.reading.reads_temp_by.Tie as tie
 
@@ -6,6 +5,6 @@ pub reads-temp-by-spec : {M : Type 1} → statement M
 reads-temp-by-spec =
     tie.close
     (tie.spec
-    (λ c κs. search needs)
-    (λ c κs. search needs)
+    (λ c κs. tt)
+    (λ c κs. tt)
     (λ c. cc))

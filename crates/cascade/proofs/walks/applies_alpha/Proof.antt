@@ -1,5 +1,4 @@
 use Rattle.cascade.specs.Warnings.{appliesAlpha}
-use borrow.Author.Needs.{needs}
 use Rattle.cascade.proofs.walks.applies_alpha.Statement.{statement}
 use Rattle.cascade.proofs.walks.applies_alpha.Tie as tie
 
@@ -8,8 +7,8 @@ unfolding appliesAlpha
 applies-alpha-spec =
     tie.close
     (tie.spec
-    (λ c κs. search needs)
-    (λ c κs. search needs)
-    (λ c κs. search needs)
-    (λ c κs. search needs)
+    (λ c κs. tt)
+    (λ c κs. tt)
+    (λ c κs. tt)
+    (λ c κs. tt)
     (λ c. cc))

@@ -1,5 +1,4 @@
 use Rattle.cascade.specs.Warnings.{appliesColour}
-use borrow.Author.Needs.{needs}
 use Rattle.cascade.proofs.walks.applies_colour.Statement.{statement}
 use Rattle.cascade.proofs.walks.applies_colour.Tie as tie
 
@@ -8,7 +7,7 @@ unfolding appliesColour
 applies-colour-spec =
     tie.close
     (tie.spec
-    (λ c κs. search needs)
-    (λ c κs. search needs)
-    (λ c κs. search needs)
+    (λ c κs. tt)
+    (λ c κs. tt)
+    (λ c κs. tt)
     (λ c. cc))

@@ -9,7 +9,7 @@ last-constant-spec =
     tie.close
     (tie.spec
     (λ c. rw (ne-eqb _ _ (c .if1 .taken)))
-    (λ c κs. search needs)
+    (λ c κs. tt)
     (λ c. search needs)
     (λ c. rw (c .before .before .if1 .left, sym (c .before .reads-constant .ensures) ∙ c .if2 .taken))
     (λ c. rw (c .before .before .if1 .left, sym (c .before .reads-constant .ensures) ∙ c .if2 .left)))

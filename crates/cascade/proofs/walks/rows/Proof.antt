@@ -1,6 +1,5 @@
 use mathlib.Core.Path.{_∙_}
 use borrow.Author.Tests.{ne-eqb}
-use borrow.Author.Needs.{needs}
 use Rattle.cascade.proofs.walks.rows.Statement.{statement}
 use Rattle.cascade.proofs.walks.rows.Tie as tie
 
@@ -9,5 +8,5 @@ rows-spec =
     tie.close
     (tie.spec
     (λ c. rw (ne-eqb _ _ (c .if1 .taken)))
-    (λ c κs. search needs)
+    (λ c κs. tt)
     (λ c. rw (c .before .if1 .left) (c .flag .ensures .0)))

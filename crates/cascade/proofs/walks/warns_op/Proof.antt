@@ -1,5 +1,4 @@
 use Rattle.cascade.specs.Warnings.{warns}
-use borrow.Author.Needs.{needs}
 use Rattle.cascade.proofs.walks.warns_op.Statement.{statement}
 use Rattle.cascade.proofs.walks.warns_op.Tie as tie
 
@@ -8,8 +7,8 @@ unfolding warns
 warns-op-spec =
     tie.close
     (tie.spec
-    (λ c κs. search needs)
-    (λ c κs. search needs)
-    (λ c κs. search needs)
-    (λ c κs. search needs)
+    (λ c κs. tt)
+    (λ c κs. tt)
+    (λ c κs. tt)
+    (λ c κs. tt)
     (λ c. cc))

@@ -1,4 +1,3 @@
-use borrow.Author.Needs.{needs}
 use Rattle.cascade.proofs.walks.without_text.Statement.{statement}
 use Rattle.cascade.proofs.walks.without_text.Tie as tie
 
@@ -6,5 +5,5 @@ pub without-text-spec : {M : Type 1} → statement M
 without-text-spec =
     tie.close
     (tie.spec
-    (λ c κs. search needs)
+    (λ c κs. tt)
     (λ c. cc))

@@ -1,6 +1,5 @@
 use Rattle.text.proofs.Laws.{texts, _⨾_, keeps}
 use native.Mathlib.Omega.{arith}
-use borrow.Author.Needs.{needs}
 use Rattle.combiners.proofs.arguments.arg_of.Statement.{statement}
 use Rattle.combiners.proofs.arguments.arg_of.Tie as tie
 
@@ -8,5 +7,5 @@ pub arg-of-spec : {M : Type 1} → statement M
 arg-of-spec =
     tie.close
     (tie.spec
-    (λ c κs. search needs)
+    (λ c κs. tt)
     (λ c. cc))

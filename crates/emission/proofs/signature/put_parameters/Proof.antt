@@ -1,8 +1,7 @@
-use mathlib.Core.Path.{ap}
+use mathlib.Core.Path.{ap, refl}
 use Rattle.cascade.specs.declared.Survey.{Survey}
 use Rattle.text.proofs.Laws.{texts, _⨾_, keeps, pick-false, nothing}
 use native.Mathlib.Omega.{arith}
-use borrow.Author.Needs.{needs}
 use Rattle.emission.specs.Whole.{parametersText}
 use Rattle.cascade.specs.Survey.{surveyOf}
 use Rattle.emission.proofs.signature.put_parameters.Statement.{statement}
@@ -13,23 +12,23 @@ unfolding parametersText surveyOf
 put-parameters-spec =
     tie.close
     (tie.spec
-    (λ c κs. search needs)
-    (λ c κs. search needs)
-    (λ c. search needs)
-    (λ c κs. search needs)
-    (λ c κs. search needs)
-    (λ c. search needs)
-    (λ c κs. search needs)
-    (λ c κs. search needs)
-    (λ c. search needs)
-    (λ c κs. search needs)
-    (λ c. search needs)
-    (λ c κs. search needs)
-    (λ c κs. search needs)
-    (λ c. search needs)
-    (λ c κs. search needs)
+    (λ c κs. tt)
+    (λ c κs. tt)
+    (λ c. refl)
+    (λ c κs. tt)
+    (λ c κs. tt)
+    (λ c. refl)
+    (λ c κs. tt)
+    (λ c κs. tt)
+    (λ c. refl)
+    (λ c κs. tt)
+    (λ c. refl)
+    (λ c κs. tt)
+    (λ c κs. tt)
+    (λ c. refl)
+    (λ c κs. tt)
     (λ c κs. ap (λ (s : Survey). s .count) (c .before .before .before .before .before .before .before .before .before .before .before .before .before .before .before .before .before .before .before .before .before .before .before .before .before .before .before .before .before .before .before .before .before .before .before .pre))
-    (λ c. search needs)
-    (λ c κs. search needs)
+    (λ c. refl)
+    (λ c κs. tt)
     (λ c. keeps (c .before .before .before .before .before .before .before .before .before .before .before .before .before .before .before .before .before .before .before .before .before .before .before .before .before .before .before .before .before .before .before .before .before .before .before .before .before .before .before .put-stage-in .ensures ⨾ c .before .before .before .before .before .before .before .before .before .before .before .before .before .before .before .before .before .before .before .before .before .before .before .before .before .before .before .before .before .before .before .before .before .before .put .ensures ⨾ c .before .before .before .before .before .before .before .before .before .before .before .before .before .before .before .before .before .before .before .before .before .before .before .before .before .before .before .before .put-when .ensures ⨾ c .before .before .before .before .before .before .before .before .before .before .before .before .before .before .before .before .before .before .before .before .before .before .put-when2 .ensures ⨾ c .before .before .before .before .before .before .before .before .before .before .before .before .before .before .before .before .before .put-when3 .ensures ⨾ c .before .before .before .before .before .before .before .before .before .before .before .put-when4 .ensures ⨾ c .before .before .before .before .before .before .before .put-samplers .ensures ⨾ c .before .before .put2 .ensures))
     (λ c. rw (← ap (λ (s : Survey). s .«bump_env») (c .before .before .before .before .before .before .before .before .before .before .before .before .before .before .before .before .before .before .before .before .before .before .before .before .before .before .before .before .before .before .before .before .before .before .before .before .before .before .before .before .before .before .before .pre), ← c .before .before .before .before .before .before .before .before .before .before .before .before .before .before .before .before .before .before .before .before .before .before .before .before .before .before .before .before .before .before .before .before .before .before .before .before .before .before .before .before .point-sprite .ensures, ← c .before .before .before .before .before .before .before .before .before .before .before .before .before .before .before .before .before .before .before .before .before .before .before .before .before .before .before .before .before .before .tested .ensures, ← c .before .before .before .before .before .before .before .before .before .before .before .before .before .before .before .before .before .before .before .before .before .before .before .before .fogged .ensures, ← c .before .before .before .before .before .before .before .before .before .before .before .before .before .lod-bias .ensures) (c .before .before .before .before .before .before .before .before .before .before .before .before .before .before .before .before .before .before .before .before .before .before .before .before .before .before .before .before .before .before .before .before .before .before .before .before .before .before .before .put-stage-in .ensures ⨾ c .before .before .before .before .before .before .before .before .before .before .before .before .before .before .before .before .before .before .before .before .before .before .before .before .before .before .before .before .before .before .before .before .before .before .put .ensures ⨾ c .before .before .before .before .before .before .before .before .before .before .before .before .before .before .before .before .before .before .before .before .before .before .before .before .before .before .before .before .put-when .ensures ⨾ c .before .before .before .before .before .before .before .before .before .before .before .before .before .before .before .before .before .before .before .before .before .before .put-when2 .ensures ⨾ c .before .before .before .before .before .before .before .before .before .before .before .before .before .before .before .before .before .put-when3 .ensures ⨾ c .before .before .before .before .before .before .before .before .before .before .before .put-when4 .ensures ⨾ c .before .before .before .before .before .before .before .put-samplers .ensures ⨾ c .before .before .put2 .ensures)))

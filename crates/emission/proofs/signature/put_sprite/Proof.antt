@@ -1,3 +1,4 @@
+use mathlib.Core.Path.{refl}
 use Rattle.text.proofs.Laws.{texts, _⨾_, keeps, pick-false, nothing}
 use native.Mathlib.Omega.{arith}
 use borrow.Author.Needs.{needs}
@@ -10,8 +11,8 @@ unfolding spriteText
 put-sprite-spec =
     tie.close
     (tie.spec
-    (λ c. search needs)
-    (λ c κs. search needs)
+    (λ c. refl)
+    (λ c κs. tt)
     (λ c κs. search needs)
     (λ c κs. search needs)
     (λ c κs. search needs)

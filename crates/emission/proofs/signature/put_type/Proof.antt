@@ -1,3 +1,4 @@
+use mathlib.Core.Path.{refl}
 use Rattle.text.proofs.Laws.{texts, _⨾_, keeps, pick-false, nothing}
 use native.Mathlib.Omega.{arith}
 use borrow.Author.Needs.{needs}
@@ -9,17 +10,17 @@ put-type-spec =
     tie.close
     (tie.spec
     (λ c. search needs)
+    (λ c. refl)
+    (λ c κs. tt)
     (λ c. search needs)
-    (λ c κs. search needs)
+    (λ c. refl)
+    (λ c κs. tt)
     (λ c. search needs)
+    (λ c. refl)
+    (λ c κs. tt)
     (λ c. search needs)
-    (λ c κs. search needs)
-    (λ c. search needs)
-    (λ c. search needs)
-    (λ c κs. search needs)
-    (λ c. search needs)
-    (λ c. search needs)
-    (λ c κs. search needs)
+    (λ c. refl)
+    (λ c κs. tt)
     (λ c. search needs)
     (λ c. rw (c .before .before .before .before .before .enum-told .given .1) (c .before .before .put .ensures))
     (λ c. search needs)

@@ -3,7 +3,6 @@ use mathlib.Core.Path.{_≡_}
 use Rattle.cascade.specs.Keys.{bump}
 use Rattle.emission.specs.Lookups.{beforeOf}
 use native.Mathlib.Omega.{arith}
-use borrow.Author.Needs.{needs}
 use Rattle.emission.proofs.stages.before_of.Statement.{statement}
 use Rattle.emission.proofs.stages.before_of.Tie as tie
 
@@ -12,8 +11,8 @@ unfolding beforeOf
 before-of-spec =
     tie.close
     (tie.spec
-    (λ c κs. search needs)
-    (λ c κs. search needs)
-    (λ c κs. search needs)
+    (λ c κs. tt)
+    (λ c κs. tt)
+    (λ c κs. tt)
     (λ c. let h : bump (c .before .before .before .before .args .s) ≡ true = cc in rw h (cc))
     (λ c. let h : bump (c .before .before .args .s) ≡ false = cc in rw h))

@@ -10,7 +10,7 @@ put-marked-spec =
     tie.close
     (tie.spec
     (λ c κs. search needs)
-    (λ c κs. search needs)
+    (λ c κs. tt)
     (λ c κs. search needs)
     (λ c κs. search needs)
     (λ c. search needs)

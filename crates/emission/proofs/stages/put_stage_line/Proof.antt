@@ -11,9 +11,9 @@ unfolding stageLine
 put-stage-line-spec =
     tie.close
     (tie.spec
-    (λ c κs. search needs)
-    (λ c κs. search needs)
-    (λ c κs. search needs)
+    (λ c κs. tt)
+    (λ c κs. tt)
+    (λ c κs. tt)
     (λ c κs. search needs)
     (λ c. search needs)
     (λ c. pick-true (sym (c .before .before .before .before .before .before .before .is-lined .ensures) ∙ c .before .before .before .before .before .before .if1 .taken) (rw (← c .before .before .before .before .textured .ensures, ← c .before .before .before .to-temp .ensures) (c .before .before .put-line .ensures)))

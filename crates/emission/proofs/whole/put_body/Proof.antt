@@ -12,11 +12,11 @@ put-body-spec =
     tie.close
     (tie.spec
     (λ c κs. search needs)
+    (λ c κs. tt)
+    (λ c κs. tt)
+    (λ c κs. tt)
     (λ c κs. search needs)
-    (λ c κs. search needs)
-    (λ c κs. search needs)
-    (λ c κs. search needs)
-    (λ c κs. search needs)
+    (λ c κs. tt)
     (λ c. search needs)
     (λ c. let a = c .before .before .before .before .before .before .before .before .before .before .before .before .before .before .before .before .before .before .before .before .before .before in (
       rw (← survey-live (a .args .k .stages) (a .args .u) (a .pre), ← c .before .before .before .before .before .before .before .before .before .before .before .before .before .before .before .point-sprite .ensures)

@@ -17,10 +17,10 @@ put-whole-spec =
     tie.close
     (tie.spec
     (λ c. search needs)
-    (λ c κs. search needs)
+    (λ c κs. tt)
     (λ c. let s = c .before .before .before .before .before .before .before .before in omega (arith, named s, s .pre .1))
     (λ c. let s = c .before .before .before .before .before .before .before .before .before in sym (length-take-le (s .args .e .len) (s .args .e .name) (omega (arith, named s, s .pre .1))))
-    (λ c κs. search needs)
+    (λ c κs. tt)
     (λ c κs. search needs)
     (λ c. search needs)
     (λ c.
