@@ -16,13 +16,13 @@ use Rattle.cascade.specs.Survey.{surveyOf}
 use Rattle.cascade.specs.declared.Stage.{Stage}
 use Rattle.cascade.specs.declared.Key.{Key}
 use Rattle.cascade.specs.declared.Survey.{Survey}
-use Rattle.emission.specs.Whole.{wholeText}
-use Rattle.emission.specs.Results.{entryGood, textOf, emittedOf}
-use Rattle.emission.specs.Demand.{Demand3}
-use Rattle.emission.specs.declared.Variant.{Variant}
-use Rattle.emission.specs.declared.Entry.{Entry}
-use Rattle.emission.specs.declared.Emitted.{Emitted}
-use Rattle.emission.proofs.Names.Whole.{demand}
+use Rattle.metal.specs.Whole.{wholeText}
+use Rattle.metal.specs.Results.{entryGood, textOf, emittedOf}
+use Rattle.metal.specs.Demand.{Demand3}
+use Rattle.metal.specs.declared.Variant.{Variant}
+use Rattle.metal.specs.declared.Entry.{Entry}
+use Rattle.metal.specs.declared.Emitted.{Emitted}
+use Rattle.metal.proofs.Names.Whole.{demand}
 
 pub held : (b : Bool) → not b ≡ false → b ≡ true
 held true e = refl

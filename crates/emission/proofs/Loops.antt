@@ -21,13 +21,13 @@ use Rattle.cascade.specs.declared.Expressions.{Expressions}
 use Rattle.cascade.specs.declared.Decoded.{Decoded}
 use Rattle.cascade.specs.declared.Decoded.the-variants.{Writes, Bump}
 use Rattle.cascade.proofs.Active.{here, past}
-use Rattle.emission.specs.Lookups.{lookupOf, beforeOf, sampleText}
-use Rattle.emission.specs.Order.{Precedes}
-use Rattle.emission.specs.Output.{lodBias}
-use Rattle.emission.specs.Whole.{textureParameter, samplerParameter, samplersText, stageLine, stagesText}
-use Rattle.emission.specs.declared.Variant.{Variant}
-use Rattle.emission.specs.declared.Before.{Before}
-use Rattle.emission.specs.declared.Before.the-variants.{Ordinary, Displacing}
+use Rattle.metal.specs.Lookups.{lookupOf, beforeOf, sampleText}
+use Rattle.metal.specs.Order.{Precedes}
+use Rattle.metal.specs.Output.{lodBias}
+use Rattle.metal.specs.Whole.{textureParameter, samplerParameter, samplersText, stageLine, stagesText}
+use Rattle.metal.specs.declared.Variant.{Variant}
+use Rattle.metal.specs.declared.Before.{Before}
+use Rattle.metal.specs.declared.Before.the-variants.{Ordinary, Displacing}
 
 module _ (v : Variant) (l : List Stage) where
   -- the texture and sampler parameters from stage i on, written, make all of them

@@ -1,11 +1,11 @@
 //! The causes for which values are refused: stage flags, variant flags, the entry.
-use crate::Entry;
+use metal::Entry;
 use crate::Key;
-use crate::Variant;
+use metal::Variant;
 ghost use mathlib.Core.Path.{_≡_};
 ghost use mathlib.Core.Bool.{_&&_};
 ghost use lib.Dec.{eqb, leb};
-ghost use Rattle.emission.specs.Results.{all, continuesName, entryGood, isLetter, stageFlagsBad, startsName, variantFlagsBad};
+ghost use Rattle.metal.specs.Results.{all, continuesName, entryGood, isLetter, stageFlagsBad, startsName, variantFlagsBad};
 
 pub fn stage_flags_bad(key: Key) -> bool
     ensures { λ r. ⌜ r ≡ stageFlagsBad (key .stages) ⌝ }

@@ -1,13 +1,13 @@
 //! What stands before the function, and the return type.
-use crate::Variant;
-use crate::bits::flat_shade;
-use crate::bits::sample_mask;
-use crate::bits::srgb_write;
+use metal::Variant;
+use lookups::bits::flat_shade;
+use lookups::bits::sample_mask;
+use lookups::bits::srgb_write;
 use text::put;
 use text::put_either;
 ghost use Rattle.text.specs.Text.{lit, pick, _⊕_};
 ghost use Rattle.text.specs.Buffer.{Wrote};
-ghost use Rattle.emission.specs.Whole.{varyingsText, srgbHelperText, fragmentText, frontText};
+ghost use Rattle.metal.specs.Whole.{varyingsText, srgbHelperText, fragmentText, frontText};
 
 fn put_colours(out: &mut [u8], at: usize, flat: bool) -> usize
     ensures { λ r. ⌜ Wrote (now (out .entry)) at (now (out .exit)) r

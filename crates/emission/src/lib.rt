@@ -1,12 +1,7 @@
 //! Emission from values: a key, a variant and an entry to Metal text in a lent buffer.
-pub mod bits;
-pub mod bump;
 pub mod checks;
-pub mod coordinates;
 pub mod header;
-pub mod lookups;
 pub mod output;
-pub mod samples;
 pub mod signature;
 pub mod stages;
 pub mod whole;
@@ -14,87 +9,19 @@ pub mod whole;
 pub use cascade::Combiner;
 pub use cascade::Key;
 pub use cascade::Stage;
+pub use metal::Answer;
+pub use metal::Emitted;
+pub use metal::Entry;
+pub use metal::Refusal;
+pub use metal::Variant;
 use cascade::walks::survey;
 ghost use Prim.Native.Nat.{_≤_, _+_};
 ghost use mathlib.Core.Path.{_≡_};
 ghost use mathlib.Core.Bool.{cond};
 ghost use lib.Dec.{leb};
 ghost use lib.ListN.{length};
-ghost use Rattle.emission.specs.Results.{answerOf, bufferAfter, frontOf, textOf};
-ghost use Rattle.emission.specs.Demand.{Demanded};
-
-// The render states beside the key that shape the text. Masks have bit i for stage i.
-pub struct Variant {
-    pub alpha_func: u8,
-    pub fog_mode: u8,
-    pub fog_table_mode: u8,
-    pub depth_sampler: u16,
-    pub depth_fetch: u16,
-    pub fetch4: u16,
-    pub fetch4_alpha: u16,
-    pub raw_depth_red: u16,
-    pub volume: u16,
-    pub cube: u16,
-    pub sample_mask: u8,
-    pub flags: u8,
-}
-
-// The name of the fragment function: its first len bytes, then zeros.
-pub struct Entry {
-    pub len: u8,
-    pub name: [u8; 32],
-}
-
-// What an accepted emission reports of its text.
-pub struct Emitted {
-    pub length: usize,
-    pub mask: u8,
-    pub rows: u8,
-    pub lookups: u8,
-    pub warning: u8,
-}
-
-pub enum Refusal {
-    StageFlags,
-    VariantFlags,
-    EntryName,
-    TextTooLong,
-}
-
-pub enum Answer {
-    Text(Emitted),
-    Refused(Refusal),
-}
-
-// A coordinate of a stage: as interpolated, divided by its w, displaced by the stage before, or divided for a depth comparison.
-pub enum Coordinate {
-    Interpolated,
-    Divided,
-    Displaced,
-    Projected,
-}
-
-// How a stage reads its texture: fetch4, of alpha or not; a depth fetch, of red alone or not; a depth comparison; or plainly, with three
-// coordinates or two.
-pub enum Lookup {
-    Fetch4(bool),
-    DepthFetch(bool),
-    DepthCompare,
-    Plain(bool),
-}
-
-pub enum TextureType {
-    Depth,
-    Volume,
-    Cube,
-    Flat,
-}
-
-// The stage before a lookup: an ordinary one, or a bump stage by its number, whether it has a texture, and whether it scales by luminance.
-pub enum Before {
-    Ordinary,
-    Displacing(u8, bool, bool),
-}
+ghost use Rattle.metal.specs.Results.{answerOf, bufferAfter, frontOf, textOf};
+ghost use Rattle.metal.specs.Demand.{Demanded};
 
 // The place behind what has been written, and the lookups among it.
 pub struct Place {

@@ -1,15 +1,15 @@
 //! Specular, fog, alpha test, sRGB and the return.
-use crate::Variant;
-use crate::bits::fog_source_w;
-use crate::bits::sample_mask;
-use crate::bits::srgb_write;
-use crate::bits::tested;
+use metal::Variant;
+use lookups::bits::fog_source_w;
+use lookups::bits::sample_mask;
+use lookups::bits::srgb_write;
+use lookups::bits::tested;
 use text::put;
 use text::put_decimal;
 use text::put_either;
 use text::put_when;
 ghost use Rattle.text.specs.Buffer.{Wrote};
-ghost use Rattle.emission.specs.Output.{specularText, fogDepthText, fogFactorText, fogText, comparisonText, testText, srgbText, returnText, outputText};
+ghost use Rattle.metal.specs.Output.{specularText, fogDepthText, fogFactorText, fogText, comparisonText, testText, srgbText, returnText, outputText};
 
 fn put_specular(out: &mut [u8], at: usize, on: bool) -> usize
     ensures { λ r. ⌜ Wrote (now (out .entry)) at (now (out .exit)) r (specularText on) ⌝ }

@@ -1,13 +1,13 @@
 //! The parameters of the function, and what its body begins with.
-use crate::TextureType;
-use crate::Variant;
-use crate::bits::fogged;
-use crate::bits::lod_bias;
-use crate::bits::point_sprite;
-use crate::bits::tested;
-use crate::coordinates::put_sampler_name;
-use crate::coordinates::put_texture_name;
-use crate::lookups::texture_type_of;
+use metal::TextureType;
+use metal::Variant;
+use lookups::bits::fogged;
+use lookups::bits::lod_bias;
+use lookups::bits::point_sprite;
+use lookups::bits::tested;
+use lookups::coordinates::put_sampler_name;
+use lookups::coordinates::put_texture_name;
+use lookups::lookup::texture_type_of;
 use cascade::Key;
 use cascade::Survey;
 use cascade::keys::textured;
@@ -21,8 +21,8 @@ ghost use Rattle.text.specs.Text.{when, _⊕_};
 ghost use Rattle.text.specs.Buffer.{Wrote};
 ghost use Rattle.cascade.specs.Keys.{active, activeCount};
 ghost use Rattle.cascade.specs.Survey.{surveyOf};
-ghost use Rattle.emission.specs.Lookups.{typeText};
-ghost use Rattle.emission.specs.Whole.{stageInText, textureParameter, samplerParameter, samplersText, parametersText, spriteLine, spriteText, localsText};
+ghost use Rattle.metal.specs.Lookups.{typeText};
+ghost use Rattle.metal.specs.Whole.{stageInText, textureParameter, samplerParameter, samplersText, parametersText, spriteLine, spriteText, localsText};
 
 pub fn put_stage_in(out: &mut [u8], at: usize, sprite: bool) -> usize
     ensures { λ r. ⌜ Wrote (now (out .entry)) at (now (out .exit)) r (stageInText sprite) ⌝ }

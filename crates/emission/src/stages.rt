@@ -1,11 +1,11 @@
 //! The lookups and lines of the active stages.
-use crate::Before;
+use metal::Before;
 use crate::Place;
-use crate::Variant;
-use crate::bits::bit;
-use crate::bits::lod_bias;
-use crate::bump::put_sample;
-use crate::lookups::lookup_of;
+use metal::Variant;
+use lookups::bits::bit;
+use lookups::bits::lod_bias;
+use lookups::bump::put_sample;
+use lookups::lookup::lookup_of;
 use cascade::Decoded;
 use cascade::Expressions;
 use cascade::Key;
@@ -28,11 +28,11 @@ ghost use Rattle.cascade.specs.Keys.{active};
 ghost use Rattle.cascade.specs.Reading.{lookupsOf};
 ghost use Rattle.cascade.specs.Survey.{surveyOf};
 ghost use Rattle.cascade.specs.declared.Decoded.the-variants.{Writes};
-ghost use Rattle.emission.specs.Lookups.{lookupOf, beforeOf, sampleText};
-ghost use Rattle.emission.specs.Order.{Precedes};
-ghost use Rattle.emission.specs.Output.{lodBias};
-ghost use Rattle.emission.specs.Whole.{stageLine, stagesText};
-ghost use Rattle.emission.specs.declared.Before.the-variants.{Ordinary};
+ghost use Rattle.metal.specs.Lookups.{lookupOf, beforeOf, sampleText};
+ghost use Rattle.metal.specs.Order.{Precedes};
+ghost use Rattle.metal.specs.Output.{lodBias};
+ghost use Rattle.metal.specs.Whole.{stageLine, stagesText};
+ghost use Rattle.metal.specs.declared.Before.the-variants.{Ordinary};
 
 fn before_of(i: u8, s: Stage) -> Before
     ensures { λ r. ⌜ r ≡ beforeOf i s ⌝ }

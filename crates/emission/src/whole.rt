@@ -1,8 +1,8 @@
 //! The whole text.
-use crate::Entry;
+use metal::Entry;
 use crate::Place;
-use crate::Variant;
-use crate::bits::point_sprite;
+use metal::Variant;
+use lookups::bits::point_sprite;
 use crate::header::put_front;
 use crate::output::put_output;
 use crate::signature::put_locals;
@@ -18,7 +18,7 @@ ghost use Rattle.text.specs.Buffer.{Wrote};
 ghost use Rattle.cascade.specs.Keys.{active};
 ghost use Rattle.cascade.specs.Reading.{lookupsOf};
 ghost use Rattle.cascade.specs.Survey.{surveyOf};
-ghost use Rattle.emission.specs.Whole.{bodyText, wholeText};
+ghost use Rattle.metal.specs.Whole.{bodyText, wholeText};
 
 fn put_body(out: &mut [u8], at: usize, k: Key, v: Variant, u: Survey) -> Place
     requires { ⌜ u ≡ surveyOf (k .stages) ⌝ }

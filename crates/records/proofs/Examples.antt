@@ -7,9 +7,9 @@ use Rattle.text.specs.Text.{bytes, decimalOf}
 use Rattle.cascade.specs.Keys.{active, maskOf, lastConstant, anyFactor, rowsOf}
 use Rattle.cascade.specs.Reading.{live, lookupsOf, readsBumpEnv}
 use Rattle.cascade.specs.Warnings.{anyWarns, stageWarnings}
-use Rattle.emission.specs.Output.{specularText, fogText, testText, srgbText, returnText, outputText}
-use Rattle.emission.specs.Results.{stageFlagsBad, all, entryGood, answerOf}
-use Rattle.emission.specs.Whole.{varyingsText, srgbHelperText, fragmentText, frontText, stageInText, samplersText, parametersText, spriteText, stagesText, localsText, bodyText, wholeText}
+use Rattle.metal.specs.Output.{specularText, fogText, testText, srgbText, returnText, outputText}
+use Rattle.metal.specs.Results.{stageFlagsBad, all, entryGood, answerOf}
+use Rattle.metal.specs.Whole.{varyingsText, srgbHelperText, fragmentText, frontText, stageInText, samplersText, parametersText, spriteText, stagesText, localsText, bodyText, wholeText}
 use Rattle.records.specs.Bodies.{stagesOf, keyOf, variantOf, entryOf}
 use Rattle.records.specs.Values.{blank, keyRecord, variantRecord, entryRecord}
 use Rattle.records.specs.Reading.{readBody, readAs, readNamed, readRecord}

@@ -10,9 +10,9 @@ use lib.ListN.{length, take, drop, getD, length-append, length-drop}
 use lib.Seq.{drop-cons, getD-append-add, length-take-le, take-add, take-at}
 use Rattle.cascade.specs.declared.Stage.{Stage}
 use Rattle.cascade.specs.declared.Key.{Key}
-use Rattle.emission.specs.Results.{stageFlagsBad, variantFlagsBad, entryGood}
-use Rattle.emission.specs.declared.Variant.{Variant}
-use Rattle.emission.specs.declared.Entry.{Entry}
+use Rattle.metal.specs.Results.{stageFlagsBad, variantFlagsBad, entryGood}
+use Rattle.metal.specs.declared.Variant.{Variant}
+use Rattle.metal.specs.declared.Entry.{Entry}
 use Rattle.records.specs.Bodies.{kindByte, bodyLength, recordLength, stagesBytes, keyBytes, variantBytes, entryBytes, bodyBytes, recordBytes, Shaped, stagesOf, keyOf, maskAt, variantOf, entryOf}
 use Rattle.records.specs.Values.{blank, keyRecord, variantRecord, entryRecord, own, ownAs}
 use Rattle.records.specs.Reading.{refused, took, readBody, readAs, readNamed, readRecord}

@@ -3,12 +3,12 @@
 use Prim.Native.Nat.{ℕ}
 use mathlib.Core.Bool.{Bool, true, false, _&&_, cond}
 use mathlib.Core.List.{List}
-use Rattle.emission.specs.Results.{textOf, answerOf}
-use Rattle.emission.specs.Results as emission
-use Rattle.emission.specs.declared.Refusal.{Refusal as EmissionRefusal}
-use Rattle.emission.specs.declared.Refusal.the-variants as emission-refusal
-use Rattle.emission.specs.declared.Answer.{Answer}
-use Rattle.emission.specs.declared.Answer.the-variants as emission-answer
+use Rattle.metal.specs.Results.{textOf, answerOf}
+use Rattle.metal.specs.Results as emission
+use Rattle.metal.specs.declared.Refusal.{Refusal as EmissionRefusal}
+use Rattle.metal.specs.declared.Refusal.the-variants as emission-refusal
+use Rattle.metal.specs.declared.Answer.{Answer}
+use Rattle.metal.specs.declared.Answer.the-variants as emission-answer
 use Rattle.records.specs.Values.{blank}
 use Rattle.records.specs.Reading.{readRecord}
 use Rattle.records.specs.declared.Kind.{Kind}

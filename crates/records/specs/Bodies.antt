@@ -7,8 +7,8 @@ use lib.Dec.{eqb}
 use lib.ListN.{length, take, drop, getD}
 use Rattle.cascade.specs.declared.Stage.{Stage}
 use Rattle.cascade.specs.declared.Key.{Key}
-use Rattle.emission.specs.declared.Variant.{Variant}
-use Rattle.emission.specs.declared.Entry.{Entry}
+use Rattle.metal.specs.declared.Variant.{Variant}
+use Rattle.metal.specs.declared.Entry.{Entry}
 use Rattle.records.specs.declared.Kind.{Kind}
 use Rattle.records.specs.declared.Kind.the-variants as kind
 use Rattle.records.specs.declared.Record.{Record}

@@ -6,8 +6,8 @@ use lib.Dec.{eqb, ltb}
 use lib.ListN.{length, drop}
 use Rattle.text.specs.Text.{flat, decimal}
 use Rattle.text.specs.Format.{format, _≔_}
-use Rattle.emission.specs.Results.{textOf}
-use Rattle.emission.specs.declared.Emitted.{Emitted}
+use Rattle.metal.specs.Results.{textOf}
+use Rattle.metal.specs.declared.Emitted.{Emitted}
 use Rattle.records.specs.Refusals.{numberOf}
 use Rattle.records.specs.Reading.{refused}
 use Rattle.records.specs.Applying.{nothingHeld, applied}

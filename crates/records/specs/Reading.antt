@@ -5,7 +5,7 @@ use mathlib.Core.Bool.{cond}
 use mathlib.Core.List.{List, [], _∷_}
 use lib.Dec.{eqb, ltb}
 use lib.ListN.{length, getD}
-use Rattle.emission.specs.Results.{stageFlagsBad, variantFlagsBad, entryGood}
+use Rattle.metal.specs.Results.{stageFlagsBad, variantFlagsBad, entryGood}
 use Rattle.records.specs.Bodies.{bodyLength, recordLength, keyOf, variantOf, entryOf}
 use Rattle.records.specs.Values.{blank, keyRecord, variantRecord, entryRecord}
 use Rattle.records.specs.declared.Kind.{Kind}

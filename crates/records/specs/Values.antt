@@ -2,8 +2,8 @@
 use mathlib.Core.List.{[]}
 use lib.ListN.{replicate}
 use Rattle.cascade.specs.declared.Key.{Key}
-use Rattle.emission.specs.declared.Variant.{Variant}
-use Rattle.emission.specs.declared.Entry.{Entry}
+use Rattle.metal.specs.declared.Variant.{Variant}
+use Rattle.metal.specs.declared.Entry.{Entry}
 use Rattle.records.specs.Bodies.{keyOf, variantOf}
 use Rattle.records.specs.declared.Kind.{Kind}
 use Rattle.records.specs.declared.Kind.the-variants as kind

@@ -4,7 +4,7 @@ use mathlib.Core.Bool.{cond}
 use mathlib.Core.List.{List, _++_}
 use lib.Dec.{ltb}
 use lib.ListN.{length, drop}
-use Rattle.emission.specs.Results.{stageFlagsBad, variantFlagsBad, entryGood}
+use Rattle.metal.specs.Results.{stageFlagsBad, variantFlagsBad, entryGood}
 use Rattle.records.specs.Bodies.{recordLength}
 use Rattle.records.specs.declared.Kind.{Kind}
 use Rattle.records.specs.declared.Kind.the-variants as kind

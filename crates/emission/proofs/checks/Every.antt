@@ -6,7 +6,7 @@ use Prim.Native.Nat.{ℕ, _≤_, _<_, _+_}
 use native.Mathlib.Numerals.{add-one}
 use lib.ListN.{length, drop, getD, drop-of-length-le}
 use lib.Seq.{drop-cons}
-use Rattle.emission.specs.Results.{all}
+use Rattle.metal.specs.Results.{all}
 
 module _ (f : ℕ → Bool) (l : List ℕ) (i : ℕ) where
   pub fails : i < length l → f (getD l i 0) ≡ false → false ≡ all f (drop i l)

@@ -7,8 +7,8 @@ use borrow.Author.Needs.{needs}
 use borrow.Author.Tests.{lt-ltb, le-ltb}
 use lib.ListN.{length, length-map}
 use Rattle.text.proofs.Laws.{whole}
-use Rattle.emission.specs.Results.{stageFlagsBad, variantFlagsBad, entryGood, textOf, answerOf}
-use Rattle.emission.specs.declared.Answer.the-variants.{Text}
+use Rattle.metal.specs.Results.{stageFlagsBad, variantFlagsBad, entryGood, textOf, answerOf}
+use Rattle.metal.specs.declared.Answer.the-variants.{Text}
 use Rattle.emission.proofs.Answers.{held, survey-warning, entry-short, fits, accepted, demanded}
 use Rattle.emission.proofs.emit.Statement.{statement}
 use Rattle.emission.proofs.emit.Tie as tie

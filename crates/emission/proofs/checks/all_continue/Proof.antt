@@ -4,7 +4,7 @@ use native.Mathlib.Omega.{arith}
 use borrow.Author.Needs.{needs}
 use borrow.Author.Tests.{not-true, not-false}
 use lib.ListN.{length, drop}
-use Rattle.emission.specs.Results.{all, continuesName}
+use Rattle.metal.specs.Results.{all, continuesName}
 use Rattle.emission.proofs.checks.Every.{fails, passes, over}
 use Rattle.emission.proofs.checks.all_continue.Statement.{statement}
 use Rattle.emission.proofs.checks.all_continue.Tie as tie

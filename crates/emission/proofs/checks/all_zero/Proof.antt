@@ -4,7 +4,7 @@ use native.Mathlib.Omega.{arith}
 use borrow.Author.Tests.{eq-eqb, ne-eqb}
 use lib.Dec.{eqb}
 use lib.ListN.{length, drop}
-use Rattle.emission.specs.Results.{all}
+use Rattle.metal.specs.Results.{all}
 use Rattle.emission.proofs.checks.Every.{fails, passes, over}
 use Rattle.emission.proofs.checks.all_zero.Statement.{statement}
 use Rattle.emission.proofs.checks.all_zero.Tie as tie

@@ -7,8 +7,8 @@ use borrow.Author.Tests.{le-leb, lt-leb, not-true, not-false}
 use lib.Dec.{eqb}
 use lib.ListN.{length, take, drop, getD, length-drop, length-map}
 use lib.Seq.{take-all}
-use Rattle.emission.specs.Results.{all, startsName, continuesName, isName, entryGood}
-use Rattle.emission.specs.declared.Entry.{Entry}
+use Rattle.metal.specs.Results.{all, startsName, continuesName, isName, entryGood}
+use Rattle.metal.specs.declared.Entry.{Entry}
 use borrow.Author.Needs.{needs}
 use Rattle.emission.proofs.checks.entry_good.Statement.{statement}
 use Rattle.emission.proofs.checks.entry_good.Tie as tie

@@ -9,7 +9,7 @@ use borrow.Author.Tests.{le-leb, lt-leb}
 use lib.ListN.{length, drop, getD, drop-of-length-le, length-map}
 use lib.Seq.{drop-cons}
 use Rattle.cascade.specs.declared.Stage.{Stage}
-use Rattle.emission.specs.Results.{stageFlagsBad}
+use Rattle.metal.specs.Results.{stageFlagsBad}
 use Rattle.emission.proofs.checks.stage_flags_bad.Statement.{statement}
 use Rattle.emission.proofs.checks.stage_flags_bad.Tie as tie
 

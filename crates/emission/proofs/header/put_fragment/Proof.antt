@@ -1,7 +1,7 @@
 use Rattle.text.proofs.Laws.{texts, _⨾_, keeps, pick-false, nothing}
 use native.Mathlib.Omega.{arith}
 use borrow.Author.Needs.{needs}
-use Rattle.emission.specs.Whole.{fragmentText}
+use Rattle.metal.specs.Whole.{fragmentText}
 use Rattle.emission.proofs.header.put_fragment.Statement.{statement}
 use Rattle.emission.proofs.header.put_fragment.Tie as tie
 

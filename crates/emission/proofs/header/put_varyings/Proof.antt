@@ -1,7 +1,7 @@
 use Rattle.text.proofs.Laws.{texts, _⨾_, keeps, pick-false, nothing}
 use native.Mathlib.Omega.{arith}
 use borrow.Author.Needs.{needs}
-use Rattle.emission.specs.Whole.{varyingsText}
+use Rattle.metal.specs.Whole.{varyingsText}
 use Rattle.emission.proofs.header.put_varyings.Statement.{statement}
 use Rattle.emission.proofs.header.put_varyings.Tie as tie
 

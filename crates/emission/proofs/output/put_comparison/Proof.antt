@@ -1,7 +1,7 @@
 use Rattle.text.proofs.Laws.{texts, same}
 use mathlib.Core.Path.{refl}
 use borrow.Author.Needs.{needs}
-use Rattle.emission.specs.Output.{comparisonText}
+use Rattle.metal.specs.Output.{comparisonText}
 use Rattle.emission.proofs.output.put_comparison.Statement.{statement}
 use Rattle.emission.proofs.output.put_comparison.Tie as tie
 

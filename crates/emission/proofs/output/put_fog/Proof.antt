@@ -2,7 +2,7 @@ use mathlib.Core.Path.{refl}
 use borrow.Author.Tests.{eq-eqb, ne-eqb}
 use Rattle.text.proofs.Laws.{_⨾_, pick-true, pick-false}
 use borrow.Author.Needs.{needs}
-use Rattle.emission.specs.Output.{fogText}
+use Rattle.metal.specs.Output.{fogText}
 use Rattle.emission.proofs.output.put_fog.Statement.{statement}
 use Rattle.emission.proofs.output.put_fog.Tie as tie
 

@@ -1,6 +1,6 @@
 use mathlib.Core.Path.{refl}
 use borrow.Author.Needs.{needs}
-use Rattle.emission.specs.Output.{fogDepthText}
+use Rattle.metal.specs.Output.{fogDepthText}
 use Rattle.emission.proofs.output.put_fog_depth.Statement.{statement}
 use Rattle.emission.proofs.output.put_fog_depth.Tie as tie
 

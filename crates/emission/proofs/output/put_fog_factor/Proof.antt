@@ -2,7 +2,7 @@ use Rattle.text.proofs.Laws.{_⨾_, same, pick-false}
 use mathlib.Core.Path.{refl}
 use borrow.Author.Tests.{ne-eqb}
 use borrow.Author.Needs.{needs}
-use Rattle.emission.specs.Output.{fogFactorText}
+use Rattle.metal.specs.Output.{fogFactorText}
 use Rattle.emission.proofs.output.put_fog_factor.Statement.{statement}
 use Rattle.emission.proofs.output.put_fog_factor.Tie as tie
 

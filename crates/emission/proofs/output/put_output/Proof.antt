@@ -1,7 +1,7 @@
 use Rattle.text.proofs.Laws.{_⨾_}
 use mathlib.Core.Path.{refl}
 use borrow.Author.Needs.{needs}
-use Rattle.emission.specs.Output.{outputText}
+use Rattle.metal.specs.Output.{outputText}
 use Rattle.emission.proofs.output.put_output.Statement.{statement}
 use Rattle.emission.proofs.output.put_output.Tie as tie
 

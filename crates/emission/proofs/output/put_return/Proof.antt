@@ -1,7 +1,7 @@
 use Rattle.text.proofs.Laws.{_⨾_, pick-true, pick-false}
 use mathlib.Core.Path.{refl, sym, _∙_}
 use borrow.Author.Needs.{needs}
-use Rattle.emission.specs.Output.{returnText}
+use Rattle.metal.specs.Output.{returnText}
 use Rattle.emission.proofs.output.put_return.Statement.{statement}
 use Rattle.emission.proofs.output.put_return.Tie as tie
 

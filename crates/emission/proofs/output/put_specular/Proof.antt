@@ -1,6 +1,6 @@
 use mathlib.Core.Path.{refl}
 use borrow.Author.Needs.{needs}
-use Rattle.emission.specs.Output.{specularText}
+use Rattle.metal.specs.Output.{specularText}
 use Rattle.emission.proofs.output.put_specular.Statement.{statement}
 use Rattle.emission.proofs.output.put_specular.Tie as tie
 

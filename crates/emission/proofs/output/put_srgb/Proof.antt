@@ -1,6 +1,6 @@
 use mathlib.Core.Path.{refl}
 use borrow.Author.Needs.{needs}
-use Rattle.emission.specs.Output.{srgbText}
+use Rattle.metal.specs.Output.{srgbText}
 use Rattle.emission.proofs.output.put_srgb.Statement.{statement}
 use Rattle.emission.proofs.output.put_srgb.Tie as tie
 

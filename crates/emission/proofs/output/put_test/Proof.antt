@@ -2,7 +2,7 @@ use Rattle.text.proofs.Laws.{_⨾_, pick-true, pick-false, nothing}
 use mathlib.Core.Path.{refl, sym, _∙_}
 use native.Mathlib.Omega.{arith}
 use borrow.Author.Needs.{needs}
-use Rattle.emission.specs.Output.{testText}
+use Rattle.metal.specs.Output.{testText}
 use Rattle.emission.proofs.output.put_test.Statement.{statement}
 use Rattle.emission.proofs.output.put_test.Tie as tie
 

@@ -2,7 +2,7 @@ use mathlib.Core.Path.{ap, refl}
 use Rattle.cascade.specs.declared.Survey.{Survey}
 use Rattle.text.proofs.Laws.{texts, _⨾_, keeps, pick-false, nothing}
 use native.Mathlib.Omega.{arith}
-use Rattle.emission.specs.Whole.{parametersText}
+use Rattle.metal.specs.Whole.{parametersText}
 use Rattle.cascade.specs.Survey.{surveyOf}
 use Rattle.emission.proofs.signature.put_parameters.Statement.{statement}
 use Rattle.emission.proofs.signature.put_parameters.Tie as tie

@@ -2,7 +2,7 @@ use mathlib.Core.Path.{refl}
 use Rattle.text.proofs.Laws.{texts, _⨾_, keeps, pick-false, nothing}
 use native.Mathlib.Omega.{arith}
 use borrow.Author.Needs.{needs}
-use Rattle.emission.specs.Whole.{samplerParameter}
+use Rattle.metal.specs.Whole.{samplerParameter}
 use Rattle.emission.proofs.signature.put_sampler_parameter.Statement.{statement}
 use Rattle.emission.proofs.signature.put_sampler_parameter.Tie as tie
 

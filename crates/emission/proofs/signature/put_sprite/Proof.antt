@@ -2,7 +2,7 @@ use mathlib.Core.Path.{refl}
 use Rattle.text.proofs.Laws.{texts, _⨾_, keeps, pick-false, nothing}
 use native.Mathlib.Omega.{arith}
 use borrow.Author.Needs.{needs}
-use Rattle.emission.specs.Whole.{spriteText}
+use Rattle.metal.specs.Whole.{spriteText}
 use Rattle.emission.proofs.signature.put_sprite.Statement.{statement}
 use Rattle.emission.proofs.signature.put_sprite.Tie as tie
 

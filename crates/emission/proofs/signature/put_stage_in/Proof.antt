@@ -2,7 +2,7 @@ use mathlib.Core.Path.{refl}
 use Rattle.text.proofs.Laws.{texts, _⨾_, keeps, pick-false, nothing}
 use native.Mathlib.Omega.{arith}
 use borrow.Author.Needs.{needs}
-use Rattle.emission.specs.Whole.{stageInText}
+use Rattle.metal.specs.Whole.{stageInText}
 use Rattle.emission.proofs.signature.put_stage_in.Statement.{statement}
 use Rattle.emission.proofs.signature.put_stage_in.Tie as tie
 

@@ -1,7 +1,7 @@
 use mathlib.Core.Bool.{true, false}
 use mathlib.Core.Path.{_≡_}
 use Rattle.cascade.specs.Keys.{bump}
-use Rattle.emission.specs.Lookups.{beforeOf}
+use Rattle.metal.specs.Lookups.{beforeOf}
 use native.Mathlib.Omega.{arith}
 use Rattle.emission.proofs.stages.before_of.Statement.{statement}
 use Rattle.emission.proofs.stages.before_of.Tie as tie

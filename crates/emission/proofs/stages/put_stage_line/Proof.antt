@@ -1,6 +1,6 @@
 use mathlib.Core.Path.{sym, _∙_}
 use Rattle.text.proofs.Laws.{pick-true, pick-false, nothing}
-use Rattle.emission.specs.Whole.{stageLine}
+use Rattle.metal.specs.Whole.{stageLine}
 use native.Mathlib.Omega.{arith}
 use borrow.Author.Needs.{needs}
 use Rattle.emission.proofs.stages.put_stage_line.Statement.{statement}

@@ -6,7 +6,7 @@ use lib.ListN.{length, length-map}
 use Rattle.text.proofs.Laws.{within, keeps}
 use Rattle.cascade.specs.Keys.{activeCount}
 use Rattle.cascade.proofs.Active.{count-le}
-use Rattle.emission.specs.Order.{Precedes}
+use Rattle.metal.specs.Order.{Precedes}
 use Rattle.emission.proofs.Loops.{AtStage, stages-start, stages-turn, stages-end, survey-count, survey-marks, precedes, no-line, a-line}
 use Rattle.emission.proofs.stages.put_stages.Statement.{statement}
 use Rattle.emission.proofs.stages.put_stages.Tie as tie

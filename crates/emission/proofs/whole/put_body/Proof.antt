@@ -1,7 +1,7 @@
 use Rattle.text.proofs.Laws.{_⨾_, keeps}
 use native.Mathlib.Omega.{arith}
 use borrow.Author.Needs.{needs}
-use Rattle.emission.specs.Whole.{bodyText}
+use Rattle.metal.specs.Whole.{bodyText}
 use Rattle.emission.proofs.Loops.{survey-live}
 use Rattle.emission.proofs.whole.put_body.Statement.{statement}
 use Rattle.emission.proofs.whole.put_body.Tie as tie

@@ -4,7 +4,7 @@ use lib.Seq.{length-take-le}
 use Rattle.text.proofs.Laws.{_⨾_}
 use native.Mathlib.Omega.{arith}
 use borrow.Author.Needs.{needs}
-use Rattle.emission.specs.Whole.{wholeText}
+use Rattle.metal.specs.Whole.{wholeText}
 use Rattle.emission.proofs.whole.put_whole.Statement.{statement}
 use Rattle.emission.proofs.whole.put_whole.Tie as tie
 

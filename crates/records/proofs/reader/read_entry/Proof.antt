@@ -1,7 +1,7 @@
 use mathlib.Core.Path.{_≡_}
 use mathlib.Core.Bool.{true, false}
 use borrow.Author.Tests.{not-true, not-false}
-use Rattle.emission.specs.Results.{entryGood}
+use Rattle.metal.specs.Results.{entryGood}
 use Rattle.records.specs.Bodies.{entryOf}
 use Rattle.records.specs.Reading.{readBody}
 use borrow.Author.Needs.{needs}

@@ -1,7 +1,7 @@
 use mathlib.Core.Path.{_≡_}
 use mathlib.Core.Bool.{true, false}
 use borrow.Author.Tests.{lt-ltb, le-ltb}
-use Rattle.emission.specs.Results.{stageFlagsBad}
+use Rattle.metal.specs.Results.{stageFlagsBad}
 use Rattle.records.specs.Bodies.{keyOf}
 use Rattle.records.specs.Reading.{readBody}
 use borrow.Author.Needs.{needs}

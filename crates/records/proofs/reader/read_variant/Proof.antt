@@ -1,6 +1,6 @@
 use mathlib.Core.Path.{_≡_}
 use mathlib.Core.Bool.{true, false}
-use Rattle.emission.specs.Results.{variantFlagsBad}
+use Rattle.metal.specs.Results.{variantFlagsBad}
 use Rattle.records.specs.Bodies.{variantOf}
 use Rattle.records.specs.Reading.{readBody}
 use borrow.Author.Needs.{needs}

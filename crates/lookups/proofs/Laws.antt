@@ -1,0 +1,25 @@
+-- Laws of the writers: pieces that one function writes, in the template's order; a bump stage before the stage that it displaces.
+use Prim.Native.Nat.{ℕ, _<_}
+use mathlib.Core.Bool.{Bool, true, false, cond}
+use mathlib.Core.List.{List, append-assoc}
+use Rattle.text.specs.Text.{Text, _⊕_}
+use Rattle.text.specs.Buffer.{Wrote}
+use Rattle.text.proofs.Laws.{same}
+use Rattle.cascade.specs.Keys.{bump}
+use Rattle.cascade.specs.declared.Stage.{Stage}
+use Rattle.metal.specs.Lookups.{beforeOf}
+use Rattle.metal.specs.Order.{Precedes}
+use Rattle.metal.specs.declared.Before.the-variants.{Ordinary, Displacing}
+
+-- three pieces, and a text behind them
+pub regroup : {l l′ : List ℕ} {a a′ : ℕ} {s t u v : Text} → Wrote l a l′ a′ ((s ⊕ t ⊕ u) ⊕ v) → Wrote l a l′ a′ (s ⊕ t ⊕ u ⊕ v)
+regroup w = same (simp append-assoc) w
+
+displaces : (b tex lum : Bool) (n i : ℕ) → n < i → Precedes (cond b (Displacing n tex lum) Ordinary) i
+displaces true tex lum n i h = h
+displaces false tex lum n i h = tt
+
+-- what stage n is to the stages behind it
+pub precedes : (n i : ℕ) (s : Stage) → n < i → Precedes (beforeOf n s) i
+unfolding beforeOf
+precedes n i s h = displaces (bump s) _ _ n i h
