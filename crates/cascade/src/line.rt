@@ -29,11 +29,11 @@ fn put_from_colour(
     requires { ⌜ stage < 8 ⌝ }
     ensures { λ r. ⌜ Wrote (now (out .entry)) at (now (out .exit)) r (lineText stage textured «to_temp» colour FromColour) ⌝ }
 {
-    let a = put(out, at, b"    ");
-    let b = put_result(out, a, to_temp);
-    let c = put(out, b, b" = ");
-    let d = put_expression(out, c, colour, stage, textured);
-    put(out, d, b";\n")
+    let mut p = put(out, at, b"    ");
+    p = put_result(out, p, to_temp);
+    p = put(out, p, b" = ");
+    p = put_expression(out, p, colour, stage, textured);
+    put(out, p, b";\n")
 }
 
 fn put_kept(
@@ -47,13 +47,13 @@ fn put_kept(
     requires { ⌜ stage < 8 ⌝ }
     ensures { λ r. ⌜ Wrote (now (out .entry)) at (now (out .exit)) r (lineText stage textured «to_temp» colour Kept) ⌝ }
 {
-    let a = put(out, at, b"    ");
-    let b = put_result(out, a, to_temp);
-    let c = put(out, b, b" = float4((");
-    let d = put_expression(out, c, colour, stage, textured);
-    let e = put(out, d, b").rgb, (");
-    let f = put_result(out, e, to_temp);
-    put(out, f, b").a);\n")
+    let mut p = put(out, at, b"    ");
+    p = put_result(out, p, to_temp);
+    p = put(out, p, b" = float4((");
+    p = put_expression(out, p, colour, stage, textured);
+    p = put(out, p, b").rgb, (");
+    p = put_result(out, p, to_temp);
+    put(out, p, b").a);\n")
 }
 
 fn put_written(
@@ -68,13 +68,13 @@ fn put_written(
     requires { ⌜ stage < 8 ⌝ }
     ensures { λ r. ⌜ Wrote (now (out .entry)) at (now (out .exit)) r (lineText stage textured «to_temp» colour (Written alpha)) ⌝ }
 {
-    let a = put(out, at, b"    ");
-    let b = put_result(out, a, to_temp);
-    let c = put(out, b, b" = float4((");
-    let d = put_expression(out, c, colour, stage, textured);
-    let e = put(out, d, b").rgb, (");
-    let f = put_expression(out, e, alpha, stage, textured);
-    put(out, f, b").a);\n")
+    let mut p = put(out, at, b"    ");
+    p = put_result(out, p, to_temp);
+    p = put(out, p, b" = float4((");
+    p = put_expression(out, p, colour, stage, textured);
+    p = put(out, p, b").rgb, (");
+    p = put_expression(out, p, alpha, stage, textured);
+    put(out, p, b").a);\n")
 }
 
 pub fn put_line(

@@ -53,9 +53,9 @@ fn put_constant(out: &mut [u8], at: usize, stage: u8) -> usize
     requires { ⌜ stage < 8 ⌝ }
     ensures { λ r. ⌜ Wrote (now (out .entry)) at (now (out .exit)) r (constantRow stage) ⌝ }
 {
-    let a = put(out, at, b"ps_c[");
-    let b = put_digit(out, a, stage + 1);
-    put(out, b, b"]")
+    let mut p = put(out, at, b"ps_c[");
+    p = put_digit(out, p, stage + 1);
+    put(out, p, b"]")
 }
 
 fn put_source(out: &mut [u8], at: usize, s: Source, stage: u8) -> usize
@@ -88,9 +88,9 @@ pub fn put_arg(out: &mut [u8], at: usize, x: Arg, stage: u8) -> usize
     ensures { λ r. ⌜ Wrote (now (out .entry)) at (now (out .exit)) r (argText stage x) ⌝ }
 {
     if x.complement {
-        let a = put(out, at, b"(1.0 - ");
-        let b = put_replicated(out, a, x, stage);
-        put(out, b, b")")
+        let mut p = put(out, at, b"(1.0 - ");
+        p = put_replicated(out, p, x, stage);
+        put(out, p, b")")
     } else {
         put_replicated(out, at, x, stage)
     }

@@ -57,11 +57,11 @@ fn put_two(
     ensures { λ r. ⌜ Wrote (now (out .entry)) at (now (out .exit)) r
         (raw (now (pre .entry)) ⊕ argText stage x ⊕ raw (now (mid .entry)) ⊕ argText stage y ⊕ raw (now (post .entry))) ⌝ }
 {
-    let a = put(out, at, pre);
-    let b = put_arg(out, a, x, stage);
-    let c = put(out, b, mid);
-    let d = put_arg(out, c, y, stage);
-    put(out, d, post)
+    let mut p = put(out, at, pre);
+    p = put_arg(out, p, x, stage);
+    p = put(out, p, mid);
+    p = put_arg(out, p, y, stage);
+    put(out, p, post)
 }
 
 // Three arguments, with bytes before, between and behind.
@@ -82,9 +82,9 @@ fn put_three(
         (raw (now (pre .entry)) ⊕ argText stage x ⊕ raw (now (mid .entry)) ⊕ argText stage y ⊕ raw (now (mid2 .entry)) ⊕ argText stage z
         ⊕ raw (now (post .entry))) ⌝ }
 {
-    let a = put(out, at, pre);
-    let b = put_arg(out, a, x, stage);
-    put_two(out, b, mid, y, mid2, z, post, stage)
+    let mut p = put(out, at, pre);
+    p = put_arg(out, p, x, stage);
+    put_two(out, p, mid, y, mid2, z, post, stage)
 }
 
 fn put_modulate(out: &mut [u8], at: usize, x: Arg, y: Arg, stage: u8) -> usize
@@ -311,15 +311,15 @@ fn put_blend_texture_alpha(
     ensures { λ r. ⌜ Wrote (now (out .entry)) at (now (out .exit)) r (opText stage textured Op.BlendTextureAlpha (argText stage x) (argText stage y)) ⌝ }
 {
     if textured {
-        let a = put(out, at, b"(");
-        let b = put_arg(out, a, x, stage);
-        let c = put(out, b, b" * ");
-        let d = put_texel(out, c, stage);
-        let e = put(out, d, b".a + ");
-        let f = put_arg(out, e, y, stage);
-        let g = put(out, f, b" * (1.0 - ");
-        let h = put_texel(out, g, stage);
-        put(out, h, b".a))")
+        let mut p = put(out, at, b"(");
+        p = put_arg(out, p, x, stage);
+        p = put(out, p, b" * ");
+        p = put_texel(out, p, stage);
+        p = put(out, p, b".a + ");
+        p = put_arg(out, p, y, stage);
+        p = put(out, p, b" * (1.0 - ");
+        p = put_texel(out, p, stage);
+        put(out, p, b".a))")
     } else {
         put_arg(out, at, y, stage)
     }
@@ -337,13 +337,13 @@ fn put_blend_texture_alpha_pm(
     ensures { λ r. ⌜ Wrote (now (out .entry)) at (now (out .exit)) r (opText stage textured Op.BlendTextureAlphaPM (argText stage x) (argText stage y)) ⌝ }
 {
     if textured {
-        let a = put(out, at, b"saturate(");
-        let b = put_arg(out, a, x, stage);
-        let c = put(out, b, b" + ");
-        let d = put_arg(out, c, y, stage);
-        let e = put(out, d, b" * (1.0 - ");
-        let f = put_texel(out, e, stage);
-        put(out, f, b".a))")
+        let mut p = put(out, at, b"saturate(");
+        p = put_arg(out, p, x, stage);
+        p = put(out, p, b" + ");
+        p = put_arg(out, p, y, stage);
+        p = put(out, p, b" * (1.0 - ");
+        p = put_texel(out, p, stage);
+        put(out, p, b".a))")
     } else {
         put_two(out, at, b"saturate(", x, b" + ", y, b")", stage)
     }

@@ -1,6 +1,6 @@
 //! The causes for which values are refused: stage flags, variant flags, the entry.
-use metal::Entry;
 use crate::Key;
+use metal::Entry;
 use metal::Variant;
 ghost use mathlib.Core.Path.{_≡_};
 ghost use mathlib.Core.Bool.{_&&_};

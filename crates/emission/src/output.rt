@@ -1,9 +1,9 @@
 //! Specular, fog, alpha test, sRGB and the return.
-use metal::Variant;
 use lookups::bits::fog_source_w;
 use lookups::bits::sample_mask;
 use lookups::bits::srgb_write;
 use lookups::bits::tested;
+use metal::Variant;
 use text::put;
 use text::put_decimal;
 use text::put_either;

@@ -1,6 +1,7 @@
 //! The parameters of the function, and what its body begins with.
-use metal::TextureType;
-use metal::Variant;
+use cascade::Key;
+use cascade::Survey;
+use cascade::keys::textured;
 use lookups::bits::fogged;
 use lookups::bits::lod_bias;
 use lookups::bits::point_sprite;
@@ -8,9 +9,8 @@ use lookups::bits::tested;
 use lookups::coordinates::put_sampler_name;
 use lookups::coordinates::put_texture_name;
 use lookups::lookup::texture_type_of;
-use cascade::Key;
-use cascade::Survey;
-use cascade::keys::textured;
+use metal::TextureType;
+use metal::Variant;
 use text::put;
 use text::put_digit;
 use text::put_either;
@@ -52,24 +52,24 @@ fn put_texture_parameter(out: &mut [u8], at: usize, v: Variant, i: u8) -> usize
     ensures { λ r. ⌜ Wrote (now (out .entry)) at (now (out .exit)) r (textureParameter v i) ⌝ }
 {
     let t = texture_type_of(v, i);
-    let a = put(out, at, b",\n    ");
-    let b = put_type(out, a, t);
-    let c = put(out, b, b" ");
-    let d = put_texture_name(out, c, i);
-    let e = put(out, d, b" [[texture(");
-    let f = put_digit(out, e, i);
-    put(out, f, b")]]")
+    let mut p = put(out, at, b",\n    ");
+    p = put_type(out, p, t);
+    p = put(out, p, b" ");
+    p = put_texture_name(out, p, i);
+    p = put(out, p, b" [[texture(");
+    p = put_digit(out, p, i);
+    put(out, p, b")]]")
 }
 
 fn put_sampler_parameter(out: &mut [u8], at: usize, i: u8) -> usize
     requires { ⌜ i < 8 ⌝ }
     ensures { λ r. ⌜ Wrote (now (out .entry)) at (now (out .exit)) r (samplerParameter i) ⌝ }
 {
-    let a = put(out, at, b",\n    sampler ");
-    let b = put_sampler_name(out, a, i);
-    let c = put(out, b, b" [[sampler(");
-    let d = put_digit(out, c, i);
-    put(out, d, b")]]")
+    let mut p = put(out, at, b",\n    sampler ");
+    p = put_sampler_name(out, p, i);
+    p = put(out, p, b" [[sampler(");
+    p = put_digit(out, p, i);
+    put(out, p, b")]]")
 }
 
 fn put_sampler(out: &mut [u8], at: usize, there: bool, v: Variant, i: u8) -> usize
@@ -87,11 +87,11 @@ fn put_sprite_line(out: &mut [u8], at: usize, i: u8) -> usize
     requires { ⌜ i < 8 ⌝ }
     ensures { λ r. ⌜ Wrote (now (out .entry)) at (now (out .exit)) r (spriteLine i) ⌝ }
 {
-    let a = put(out, at, b"    in.texcoord");
-    let b = put_digit(out, a, i);
+    let mut p = put(out, at, b"    in.texcoord");
+    p = put_digit(out, p, i);
     put(
         out,
-        b,
+        p,
         b" = float4(point_coord.x, point_coord.y, 0.0, 0.0);\n",
     )
 }
@@ -100,15 +100,15 @@ pub fn put_sprite(out: &mut [u8], at: usize, sprite: bool) -> usize
     ensures { λ r. ⌜ Wrote (now (out .entry)) at (now (out .exit)) r (spriteText sprite) ⌝ }
 {
     if sprite {
-        let a = put(out, at, b"    Varyings in = in_stage;\n");
-        let b = put_sprite_line(out, a, 0);
-        let c = put_sprite_line(out, b, 1);
-        let d = put_sprite_line(out, c, 2);
-        let e = put_sprite_line(out, d, 3);
-        let f = put_sprite_line(out, e, 4);
-        let g = put_sprite_line(out, f, 5);
-        let h = put_sprite_line(out, g, 6);
-        return put_sprite_line(out, h, 7);
+        let mut p = put(out, at, b"    Varyings in = in_stage;\n");
+        p = put_sprite_line(out, p, 0);
+        p = put_sprite_line(out, p, 1);
+        p = put_sprite_line(out, p, 2);
+        p = put_sprite_line(out, p, 3);
+        p = put_sprite_line(out, p, 4);
+        p = put_sprite_line(out, p, 5);
+        p = put_sprite_line(out, p, 6);
+        return put_sprite_line(out, p, 7);
     }
     at
 }
@@ -139,32 +139,32 @@ pub fn put_parameters(out: &mut [u8], at: usize, k: Key, v: Variant, u: Survey) 
     requires { ⌜ u ≡ surveyOf (k .stages) ⌝ }
     ensures { λ r. ⌜ Wrote (now (out .entry)) at (now (out .exit)) r (parametersText v (active (k .stages))) ⌝ }
 {
-    let a = put_stage_in(out, at, point_sprite(v));
-    let b = put(out, a, b"    constant float4 *ps_c [[buffer(15)]]");
-    let c = put_when(
+    let mut p = put_stage_in(out, at, point_sprite(v));
+    p = put(out, p, b"    constant float4 *ps_c [[buffer(15)]]");
+    p = put_when(
         out,
-        b,
+        p,
         tested(v),
         b",\n    constant float &alpha_ref [[buffer(14)]]",
     );
-    let d = put_when(
+    p = put_when(
         out,
-        c,
+        p,
         fogged(v),
         b",\n    constant float4 *fog_data [[buffer(13)]]",
     );
-    let e = put_when(
+    p = put_when(
         out,
-        d,
+        p,
         u.bump_env,
         b",\n    constant float4 *bump_env [[buffer(12)]]",
     );
-    let f = put_when(
+    p = put_when(
         out,
-        e,
+        p,
         lod_bias(v),
         b",\n    constant float4 *lod_bias [[buffer(11)]]",
     );
-    let g = put_samplers(out, f, k, u.count, v);
-    put(out, g, b"\n) {\n")
+    p = put_samplers(out, p, k, u.count, v);
+    put(out, p, b"\n) {\n")
 }

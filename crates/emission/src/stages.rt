@@ -1,11 +1,5 @@
 //! The lookups and lines of the active stages.
-use metal::Before;
 use crate::Place;
-use metal::Variant;
-use lookups::bits::bit;
-use lookups::bits::lod_bias;
-use lookups::bump::put_sample;
-use lookups::lookup::lookup_of;
 use cascade::Decoded;
 use cascade::Expressions;
 use cascade::Key;
@@ -18,6 +12,12 @@ use cascade::keys::to_temp;
 use cascade::line::put_line;
 use cascade::reading::is_lined;
 use cascade::reading::is_luminance;
+use lookups::bits::bit;
+use lookups::bits::lod_bias;
+use lookups::bump::put_sample;
+use lookups::lookup::lookup_of;
+use metal::Before;
+use metal::Variant;
 ghost use Prim.Native.Nat.{_<_, _≤_, suc};
 ghost use mathlib.Core.Path.{_≡_};
 ghost use mathlib.Core.Bool.{cond};

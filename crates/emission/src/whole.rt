@@ -1,8 +1,5 @@
 //! The whole text.
-use metal::Entry;
 use crate::Place;
-use metal::Variant;
-use lookups::bits::point_sprite;
 use crate::header::put_front;
 use crate::output::put_output;
 use crate::signature::put_locals;
@@ -11,6 +8,9 @@ use crate::signature::put_sprite;
 use crate::stages::put_stages;
 use cascade::Key;
 use cascade::Survey;
+use lookups::bits::point_sprite;
+use metal::Entry;
+use metal::Variant;
 use text::put;
 ghost use Prim.Native.Nat.{_≤_};
 ghost use mathlib.Core.Path.{_≡_};

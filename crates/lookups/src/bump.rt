@@ -1,11 +1,11 @@
 //! Bump stages: the coordinate that one displaces, the texel that one scales, and all that a lookup behind one writes.
-use metal::Before;
-use metal::Coordinate;
-use metal::Lookup;
 use crate::coordinates::put_coordinate;
 use crate::coordinates::put_tested_quotient;
 use crate::lookup::put_lookup;
 use combiners::arguments::put_texel;
+use metal::Before;
+use metal::Coordinate;
+use metal::Lookup;
 use text::put;
 use text::put_decimal;
 ghost use Prim.Native.Nat.{_<_, _+_, _*_};

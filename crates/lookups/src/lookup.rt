@@ -1,8 +1,4 @@
 //! Lookups: how a stage reads its texture, and the line of its texel.
-use metal::Coordinate;
-use metal::Lookup;
-use metal::TextureType;
-use metal::Variant;
 use crate::bits::bit;
 use crate::coordinates::put_coordinate;
 use crate::coordinates::put_tested_quotient;
@@ -11,6 +7,10 @@ use crate::samples::put_depth;
 use crate::samples::put_gather;
 use crate::samples::put_plain;
 use combiners::arguments::put_texel;
+use metal::Coordinate;
+use metal::Lookup;
+use metal::TextureType;
+use metal::Variant;
 use text::put;
 use text::put_when;
 ghost use Prim.Native.Nat.{_<_};

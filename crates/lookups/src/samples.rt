@@ -1,9 +1,9 @@
 //! What a lookup reads: a texture sampled or gathered at a coordinate.
-use metal::Coordinate;
 use crate::coordinates::put_coordinate;
 use crate::coordinates::put_sampler_name;
 use crate::coordinates::put_texture_name;
 use crate::coordinates::put_uv;
+use metal::Coordinate;
 use text::put;
 use text::put_digit;
 use text::put_when;
