@@ -7,8 +7,8 @@ use native.Mathlib.Omega.{arith, min-cases}
 use native.Mathlib.Nat.{add-zero, zero-add}
 use borrow.Author.Tests.{ne-eqb, le-leb, lt-leb, le-ltb, lt-ltb}
 use lib.Dec.{eqb}
-use lib.ListN.{length, drop, set, length-set, length-append}
-use lib.Seq.{sets, sets-eq, length-sets, set-out}
+use lib.ListN.{length, take, drop, set, length-set, length-append, take-append-drop}
+use lib.Seq.{sets, sets-eq, length-sets, length-take-le, set-out}
 use Rattle.text.specs.Text.{Text, raw, _⊕_, pick, flat, size}
 use Rattle.text.specs.Buffer.{Wrote}
 
@@ -27,6 +27,14 @@ sets-out (x ∷ t) l i h = rw (set-out l i x h) (sets-out t l (suc i) (omega ari
 pub sets-append : (s t l : List ℕ) (i : ℕ) → sets l i (s ++ t) ≡ sets (sets l i s) (i + length s) t
 sets-append [] t l i = rw add-zero
 sets-append (x ∷ s) t l i = sets-append s t (set l i x) (suc i) ∙ ap (λ (k : ℕ). sets (sets (set l i x) (suc i) s) k t) (omega arith)
+
+-- what does not fall inside may be left out
+pub sets-take : (t l : List ℕ) (i n : ℕ) → n ≤ length t → length l ≤ i + n → sets l i (take n t) ≡ sets l i t
+sets-take t l i n k h =
+    let e : length (take n t) ≡ n = length-take-le n t k in
+    sym (sets-out (drop n t) (sets l i (take n t)) (i + length (take n t)) (simp length-sets (omega arith)))
+    ∙ sym (sets-append (take n t) (drop n t) l i)
+    ∙ rw take-append-drop
 
 -- where the place would be past the largest usize, the buffer has ended long before
 seam : (s t l : List ℕ) (i : ℕ) → length l < 2 ^ 63 → sets (sets l i s) (min (2 ^ 64 - 1) (i + length s)) t ≡ sets l i (s ++ t)

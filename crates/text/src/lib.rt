@@ -2,11 +2,24 @@
 //!
 //! Each function writes at a place of the buffer the bytes that fall inside it, and returns the place behind the last, at most the
 //! largest usize. On an empty buffer it only measures.
-ghost use Prim.Native.Nat.{_<_};
+ghost use Prim.Native.Nat.{_<_, _≤_, _+_};
 ghost use mathlib.Core.Path.{_≡_};
+ghost use lib.ListN.{length, take};
 ghost use lib.Seq.{sets};
 ghost use Rattle.text.specs.Text.{raw, pick, when, digit, decimal};
 ghost use Rattle.text.specs.Buffer.{Wrote};
+
+// The first n bytes of s, into out from at on.
+fn copy(out: &mut [u8], at: usize, s: &[u8], n: usize)
+    requires { ⌜ (at + n ≤ length (now out)) × (n ≤ length (now s)) ⌝ }
+    ensures { λ _. ⌜ now (out .exit) ≡ sets (now (out .entry)) at (take n (now (s .entry))) ⌝ }
+{
+    let mut i = 0;
+    while i < n {
+        out[at + i] = s[i];
+        i += 1;
+    }
+}
 
 // The bytes of s that fall inside out, from at on.
 fn lay(out: &mut [u8], at: usize, s: &[u8])
@@ -16,13 +29,10 @@ fn lay(out: &mut [u8], at: usize, s: &[u8])
         return;
     }
     let room = out.len() - at;
-    let mut i = 0;
-    while i < s.len() {
-        if room <= i {
-            return;
-        }
-        out[at + i] = s[i];
-        i += 1;
+    if s.len() <= room {
+        copy(out, at, s, s.len());
+    } else {
+        copy(out, at, s, room);
     }
 }
 
