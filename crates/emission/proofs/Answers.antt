@@ -1,9 +1,10 @@
 -- What an accepted emission answers and writes, from what its parts promise.
 use Prim.Native.Nat.{ℕ, _+_, _-_, _^_, _≤_, _<_, min}
 use mathlib.Core.Bool.{Bool, true, false, not, _&&_, cond, true≢false}
-use mathlib.Core.Path.{_≡_, refl, sym, subst, _∙_}
+use mathlib.Core.Path.{_≡_, refl, ap, sym, subst, _∙_}
 use mathlib.Core.List.{List, [], _++_}
 use native.Mathlib.Omega.{arith}
+use borrow.Author.Tests.{le-leb}
 use lib.Dec.{leb, T, leb→le}
 use lib.ListN.{length, take, drop}
 use lib.Seq.{take-at}
@@ -28,6 +29,10 @@ pub held : (b : Bool) → not b ≡ false → b ≡ true
 held true e = refl
 held false e = absurd (true≢false e)
 
+pub unheld : (b : Bool) → not b ≡ true → b ≡ false
+unheld true e = absurd (true≢false (sym e))
+unheld false e = refl
+
 warnings-le : (a b c : Bool) → cond a 1 0 + cond b 2 0 + cond c 4 0 ≤ 7
 warnings-le true true true = omega arith
 warnings-le true true false = omega arith
@@ -50,9 +55,28 @@ entry-short e h = leb→le (e .len) 32 (go (leb (e .len) 32) _ (subst T (sym h) 
     go true b t = tt
     go false b t = absurd t
 
--- the length of a text that fits is its place
-pub fits : {l l′ : List ℕ} {at : ℕ} (k : Key) (v : Variant) (e : Entry) → Wrote l 0 l′ at (wholeText k v e) → at < 2 ^ 63 → at ≡ length (textOf k v e)
-fits k v e w h = let n = w .next in omega arith
+-- the place behind a whole text is its length, where a buffer of that length can be
+pub placed : {l l′ : List ℕ} {at : ℕ} (k : Key) (v : Variant) (e : Entry) → Wrote l 0 l′ at (wholeText k v e) → length (textOf k v e) < 2 ^ 63
+    → at ≡ length (textOf k v e)
+placed k v e w h = let n = w .next in omega arith
+
+-- measured against a buffer that is shorter than the longest text
+pub measured : {l l′ : List ℕ} {at : ℕ} (k : Key) (v : Variant) (e : Entry) (room : ℕ) → Wrote l 0 l′ at (wholeText k v e)
+    → length (textOf k v e) ≤ 16384 → leb at room ≡ leb (length (textOf k v e)) room
+measured k v e room w h = ap (λ (n : ℕ). leb n room) (placed k v e w (omega arith))
+
+pub within-room : (n room : ℕ) {b : Bool} → b ≡ leb n room → b ≡ true → n ≤ room
+within-room n room e t = leb→le n room (subst T (sym (sym e ∙ t)) tt)
+
+pub beyond-room : (n room : ℕ) {b : Bool} → b ≡ leb n room → b ≡ false → room < n
+beyond-room n room e f = go (leb n room) (sym e ∙ f) (le-leb n room)
+  where
+    go : (b : Bool) → b ≡ false → (n ≤ room → b ≡ true) → room < n
+    go true h k = absurd (true≢false h)
+    go false h k = not-le λ q. true≢false (sym (k q))
+      where
+        not-le : (n ≤ room → ⊥) → room < n
+        not-le q = omega arith
 
 pub accepted : (k : Key) (v : Variant) (e : Entry) (u : Survey) (at lookups warning : ℕ) → u ≡ surveyOf (k .stages) → at ≡ length (textOf k v e)
     → lookups ≡ lookupsOf (u .live) (active (k .stages)) → warning ≡ u .warning + cond (leb 9 (v .«alpha_func»)) 8 0

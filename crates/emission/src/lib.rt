@@ -56,10 +56,7 @@ pub fn emit(key: Key, variant: Variant, entry: Entry, out: &mut [u8]) -> Answer
         return Answer::Refused(Refusal::EntryName);
     }
     let u = survey(key);
-    let mut none = [0u8; 0];
-    let measured = whole::put_whole(&mut none, key, variant, entry, u);
-    let needed = measured.at;
-    if out.len() < needed {
+    if !whole::fits(key, variant, entry, u, out.len()) {
         return Answer::Refused(Refusal::TextTooLong);
     }
     let written = whole::put_whole(out, key, variant, entry, u);

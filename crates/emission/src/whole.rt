@@ -14,10 +14,13 @@ use metal::Variant;
 use text::put;
 ghost use Prim.Native.Nat.{_≤_};
 ghost use mathlib.Core.Path.{_≡_};
+ghost use lib.Dec.{leb};
+ghost use lib.ListN.{length};
 ghost use Rattle.text.specs.Buffer.{Wrote};
 ghost use Rattle.cascade.specs.Keys.{active};
 ghost use Rattle.cascade.specs.Reading.{lookupsOf};
 ghost use Rattle.cascade.specs.Survey.{surveyOf};
+ghost use Rattle.metal.specs.Results.{textOf};
 ghost use Rattle.metal.specs.Whole.{bodyText, wholeText};
 
 fn put_body(out: &mut [u8], at: usize, k: Key, v: Variant, u: Survey) -> Place
@@ -46,4 +49,17 @@ pub fn put_whole(out: &mut [u8], k: Key, v: Variant, e: Entry, u: Survey) -> Pla
     let a = put_front(out, 0, v);
     let b = put(out, a, &name[..end]);
     put_body(out, b, k, v, u)
+}
+
+// Whether the text has at most room bytes. No text is longer than 16,384 bytes, so only a shorter buffer has to be measured for.
+pub fn fits(k: Key, v: Variant, e: Entry, u: Survey, room: usize) -> bool
+    requires { ⌜ (u ≡ surveyOf (k .stages)) × (e .len ≤ 32) ⌝ }
+    ensures { λ r. ⌜ r ≡ leb (length (textOf k v e)) room ⌝ }
+{
+    if 16384 <= room {
+        return true;
+    }
+    let mut none = [0u8; 0];
+    let measured = put_whole(&mut none, k, v, e, u);
+    measured.at <= room
 }
