@@ -1,3 +1,5 @@
 pub mod Laws
+pub mod Cases
+pub mod Turns
 pub mod RoundTrips
 pub mod Examples

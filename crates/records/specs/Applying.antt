@@ -5,6 +5,7 @@ use mathlib.Core.Bool.{Bool, true, false, _&&_, cond}
 use mathlib.Core.List.{List}
 use Rattle.metal.specs.Results.{textOf, answerOf}
 use Rattle.metal.specs.Results as emission
+use Rattle.metal.specs.Demand as demand
 use Rattle.metal.specs.declared.Refusal.{Refusal as EmissionRefusal}
 use Rattle.metal.specs.declared.Refusal.the-variants as emission-refusal
 use Rattle.metal.specs.declared.Answer.{Answer}
@@ -48,6 +49,10 @@ holding kind.Entry r h =
     record { «has_key» = h .«has_key»; key = h .key; «has_variant» = h .«has_variant»; variant = h .variant; «has_entry» = true; entry = r .entry }
 holding kind.Emit r h = h
 
+-- a record that took n bytes, whose value is held now
+abbrev pub replacedBy : ℕ → Held → Applied
+replacedBy n h = record { answer = Replaced n; held = h }
+
 -- a refusal of emission, with the same number
 abbrev pub refusalOf : EmissionRefusal → Refusal
 refusalOf emission-refusal.StageFlags = StageFlags
@@ -89,3 +94,9 @@ textAfter (Refused c) h out = out
 -- what applying the record at the front of b answers, and what is held then
 abbrev pub applied : Held → List ℕ → ℕ → Applied
 applied h b room = record { answer = applyAnswer h b room; held = heldAfter (applyAnswer h b room) (readRecord b .found) h }
+
+-- demand 3 of an accepted emit record, and of the bytes that the buffer then holds, is that of emission
+abbrev pub Demanded : ApplyAnswer → List ℕ → Type 0
+Demanded (Replaced n) out = Unit {0}
+Demanded (Text n e) out = demand.Demanded (emission-answer.Text e) out
+Demanded (Refused c) out = Unit {0}

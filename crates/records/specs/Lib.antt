@@ -5,3 +5,4 @@ pub mod Reading
 pub mod Writing
 pub mod Applying
 pub mod Program
+pub mod Steps

@@ -4,7 +4,7 @@ use mathlib.Core.Bool.{cond}
 use mathlib.Core.List.{List, [], _∷_, _++_}
 use lib.Dec.{eqb, ltb}
 use lib.ListN.{length, drop}
-use Rattle.text.specs.Text.{flat, decimal}
+use Rattle.text.specs.Text.{Text, flat, decimal}
 use Rattle.text.specs.Format.{format, _≔_}
 use Rattle.metal.specs.Results.{textOf}
 use Rattle.metal.specs.declared.Emitted.{Emitted}
@@ -13,7 +13,7 @@ use Rattle.records.specs.Reading.{refused}
 use Rattle.records.specs.Applying.{nothingHeld, applied}
 use Rattle.records.specs.declared.Held.{Held}
 use Rattle.records.specs.declared.ApplyAnswer.{ApplyAnswer}
-use Rattle.records.specs.declared.ApplyAnswer.the-variants.{Replaced, Text, Refused}
+use Rattle.records.specs.declared.ApplyAnswer.the-variants as answer
 
 -- 01: "Program `ffps` reads standard input into a buffer of 32,768 bytes and has one of 16,384 for text."
 abbrev pub inputRoom : ℕ
@@ -23,25 +23,33 @@ abbrev pub textRoom : ℕ
 textRoom = 16384
 
 -- 01: "`emit` fields, decimal: mask, rows, lookups, warning."
-unfoldable pub emitLine : Emitted → List ℕ
-emitLine e =
-    flat
+abbrev pub emitText : Emitted → Text
+emitText e =
     (format "emit {mask} {rows} {lookups} {warning}\n"
     (("mask" ≔ decimal (e .mask)) ∷ ("rows" ≔ decimal (e .rows)) ∷ ("lookups" ≔ decimal (e .lookups)) ∷ ("warning" ≔ decimal (e .warning)) ∷ []))
 
+unfoldable pub emitLine : Emitted → List ℕ
+emitLine e = flat (emitText e)
+
 -- 01: "`end` counts texts."
+abbrev pub endText : ℕ → Text
+endText n = format "end {n}\n" (("n" ≔ decimal n) ∷ [])
+
 unfoldable pub endLine : ℕ → List ℕ
-endLine n = flat (format "end {n}\n" (("n" ≔ decimal n) ∷ []))
+endLine n = flat (endText n)
 
 -- 01: "The program's last line is then `refused N at P`, P the offset of the kind byte, 32768 for 9; no `end`."
+abbrev pub refusedText : ℕ → ℕ → Text
+refusedText n p = format "refused {n} at {p}\n" (("n" ≔ decimal n) ∷ ("p" ≔ decimal p) ∷ [])
+
 unfoldable pub refusedLine : ℕ → ℕ → List ℕ
-refusedLine n p = flat (format "refused {n} at {p}\n" (("n" ≔ decimal n) ∷ ("p" ≔ decimal p) ∷ []))
+refusedLine n p = flat (refusedText n p)
 
 -- what is printed for the answer to the record at offset p, h being held: go on m bytes further, with so many texts more, or stop
 unfoldable pub printed : ApplyAnswer → ℕ → Held → (ℕ → ℕ → List ℕ) → List ℕ
-printed (Replaced m) p h goOn = goOn m 0
-printed (Text m e) p h goOn = emitLine e ++ (textOf (h .key) (h .variant) (h .entry) ++ goOn m 1)
-printed (Refused c) p h goOn = refusedLine (numberOf c) p
+printed (answer.Replaced m) p h goOn = goOn m 0
+printed (answer.Text m e) p h goOn = emitLine e ++ (textOf (h .key) (h .variant) (h .entry) ++ goOn m 1)
+printed (answer.Refused c) p h goOn = refusedLine (numberOf c) p
 
 -- What is printed for the bytes b from offset p on, behind n texts. 01: "the program stops with `end` when its input is used up." Each record
 -- takes a byte at least, so there are as many turns as bytes, or more.

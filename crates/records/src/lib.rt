@@ -6,8 +6,11 @@ pub use emission::Emitted;
 pub use emission::Entry;
 pub use emission::Variant;
 
+pub mod apply;
+pub mod lines;
 pub mod make;
 pub mod reader;
+pub mod session;
 pub mod writer;
 
 ghost use mathlib.Core.Path.{_≡_};
