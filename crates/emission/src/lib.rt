@@ -1,10 +1,10 @@
 //! Emission from values: a key, a variant and an entry to Metal text in a lent buffer.
 pub mod checks;
-pub mod header;
-pub mod output;
-pub mod signature;
-pub mod stages;
-pub mod whole;
+mod header;
+mod output;
+mod signature;
+mod stages;
+mod whole;
 
 pub use cascade::Combiner;
 pub use cascade::Key;

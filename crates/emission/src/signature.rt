@@ -24,7 +24,7 @@ ghost use Rattle.cascade.specs.Survey.{surveyOf};
 ghost use Rattle.metal.specs.Lookups.{typeText};
 ghost use Rattle.metal.specs.Whole.{stageInText, textureParameter, samplerParameter, samplersText, parametersText, spriteLine, spriteText, localsText};
 
-pub fn put_stage_in(out: &mut [u8], at: usize, sprite: bool) -> usize
+pub(crate) fn put_stage_in(out: &mut [u8], at: usize, sprite: bool) -> usize
     ensures { λ r. ⌜ Wrote (now (out .entry)) at (now (out .exit)) r (stageInText sprite) ⌝ }
 {
     put_either(
@@ -96,7 +96,7 @@ fn put_sprite_line(out: &mut [u8], at: usize, i: u8) -> usize
     )
 }
 
-pub fn put_sprite(out: &mut [u8], at: usize, sprite: bool) -> usize
+pub(crate) fn put_sprite(out: &mut [u8], at: usize, sprite: bool) -> usize
     ensures { λ r. ⌜ Wrote (now (out .entry)) at (now (out .exit)) r (spriteText sprite) ⌝ }
 {
     if sprite {
@@ -113,7 +113,7 @@ pub fn put_sprite(out: &mut [u8], at: usize, sprite: bool) -> usize
     at
 }
 
-pub fn put_locals(out: &mut [u8], at: usize, alive: bool) -> usize
+pub(crate) fn put_locals(out: &mut [u8], at: usize, alive: bool) -> usize
     ensures { λ r. ⌜ Wrote (now (out .entry)) at (now (out .exit)) r (localsText alive) ⌝ }
 {
     let a = put(out, at, b"    float4 current = in.color0;\n");
@@ -135,7 +135,7 @@ fn put_samplers(out: &mut [u8], at: usize, k: Key, n: usize, v: Variant) -> usiz
     p
 }
 
-pub fn put_parameters(out: &mut [u8], at: usize, k: Key, v: Variant, u: Survey) -> usize
+pub(crate) fn put_parameters(out: &mut [u8], at: usize, k: Key, v: Variant, u: Survey) -> usize
     requires { ⌜ u ≡ surveyOf (k .stages) ⌝ }
     ensures { λ r. ⌜ Wrote (now (out .entry)) at (now (out .exit)) r (parametersText v (active (k .stages))) ⌝ }
 {

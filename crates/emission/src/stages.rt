@@ -86,7 +86,7 @@ fn put_stage_line(out: &mut [u8], at: usize, alive: bool, s: Stage, e: Expressio
     at
 }
 
-pub fn put_stages(out: &mut [u8], at: usize, k: Key, v: Variant, u: Survey) -> Place
+pub(crate) fn put_stages(out: &mut [u8], at: usize, k: Key, v: Variant, u: Survey) -> Place
     requires { ⌜ u ≡ surveyOf (k .stages) ⌝ }
     ensures { λ r. ⌜ Wrote (now (out .entry)) at (now (out .exit)) (r .at)
         (stagesText v (k .projected) (u .live) Ordinary 0 (active (k .stages))) ⌝ }

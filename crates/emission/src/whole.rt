@@ -39,7 +39,7 @@ fn put_body(out: &mut [u8], at: usize, k: Key, v: Variant, u: Survey) -> Place
     }
 }
 
-pub fn put_whole(out: &mut [u8], k: Key, v: Variant, e: Entry, u: Survey) -> Place
+pub(crate) fn put_whole(out: &mut [u8], k: Key, v: Variant, e: Entry, u: Survey) -> Place
     requires { ⌜ (u ≡ surveyOf (k .stages)) × (e .len ≤ 32) ⌝ }
     ensures { λ r. ⌜ Wrote (now (out .entry)) 0 (now (out .exit)) (r .at) (wholeText k v e) ⌝ }
     ensures { λ r. ⌜ r .lookups ≡ lookupsOf (u .live) (active (k .stages)) ⌝ }
@@ -52,7 +52,7 @@ pub fn put_whole(out: &mut [u8], k: Key, v: Variant, e: Entry, u: Survey) -> Pla
 }
 
 // Whether the text has at most room bytes. No text is longer than 16,384 bytes, so only a shorter buffer has to be measured for.
-pub fn fits(k: Key, v: Variant, e: Entry, u: Survey, room: usize) -> bool
+pub(crate) fn fits(k: Key, v: Variant, e: Entry, u: Survey, room: usize) -> bool
     requires { ⌜ (u ≡ surveyOf (k .stages)) × (e .len ≤ 32) ⌝ }
     ensures { λ r. ⌜ r ≡ leb (length (textOf k v e)) room ⌝ }
 {
