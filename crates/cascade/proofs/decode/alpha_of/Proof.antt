@@ -1,8 +1,6 @@
-use mathlib.Core.Bool.{Bool, true, false}
-use mathlib.Core.Path.{_≡_, ap, sym, _∙_}
+use mathlib.Core.Path.{ap, sym, _∙_}
 use borrow.Author.Tests.{ne-eqb}
-use Rattle.cascade.specs.Keys.{textured, fallsBack, alphaFromColour}
-use Rattle.cascade.specs.Stages.{combined, alphaOf}
+use Rattle.cascade.specs.Stages.{alphaOf}
 use Rattle.cascade.specs.declared.Alpha.the-variants.{Written}
 use Rattle.cascade.proofs.decode.alpha_of.Statement.{statement}
 use Rattle.cascade.proofs.decode.alpha_of.Tie as tie
@@ -14,12 +12,12 @@ alpha-of-spec =
     (tie.spec
     (λ c κs. tt)
     (λ c κs. tt)
-    (λ c. let s = c .before .before .before .before .args .s in let h0 : alphaFromColour s ≡ true = cc in rw (h0))
-    (λ c. let s = c .before .before .before .before .before .before .args .s in let h0 : alphaFromColour s ≡ false = cc in rw (h0, c .if2 .taken))
+    (λ c. rw (sym (c .before .alpha-from-colour .ensures) ∙ c .if1 .taken))
+    (λ c. rw (sym (c .before .before .before .alpha-from-colour .ensures) ∙ c .before .before .if1 .left, c .if2 .taken))
     (λ c κs. tt)
     (λ c κs. tt)
-    (λ c. let s = c .before .before .before .before .before .before .before .before .before .args .s in let h0 : alphaFromColour s ≡ false = cc in let h2 : fallsBack (textured s) (s .alpha) ≡ true = cc in rw (h0, ne-eqb _ _ (c .before .before .before .if2 .left), h2) (ap Written (c .fallback .ensures)))
+    (λ c. rw (sym (c .before .before .before .before .before .before .alpha-from-colour .ensures) ∙ c .before .before .before .before .before .if1 .left, ne-eqb _ _ (c .before .before .before .if2 .left), sym (c .before .before .before .before .before .before .before .textured .ensures), sym (c .before .before .falls-back .ensures) ∙ c .before .if3 .taken) (ap Written (c .fallback .ensures)))
     (λ c κs. tt)
-    (λ c. let s = c .before .before .before .before .before .before .before .before .before .before .args .s in let h0 : alphaFromColour s ≡ false = cc in let h2 : fallsBack (textured s) (s .alpha) ≡ false = cc in let h3 = sym (c .before .is-bump-op .ensures) ∙ c .if4 .taken in rw (h0, ne-eqb _ _ (c .before .before .before .before .if2 .left), h2, h3))
+    (λ c. rw (sym (c .before .before .before .before .before .before .before .alpha-from-colour .ensures) ∙ c .before .before .before .before .before .before .if1 .left, ne-eqb _ _ (c .before .before .before .before .if2 .left), sym (c .before .before .before .before .before .before .before .before .textured .ensures), sym (c .before .before .before .falls-back .ensures) ∙ c .before .before .if3 .left, sym (c .before .is-bump-op .ensures) ∙ c .if4 .taken))
     (λ c κs. tt)
-    (λ c. let s = c .before .before .before .before .before .before .before .before .before .before .before .args .s in let h0 : alphaFromColour s ≡ false = cc in let h2 : fallsBack (textured s) (s .alpha) ≡ false = cc in let h3 = sym (c .before .before .is-bump-op .ensures) ∙ c .before .if4 .left in rw (h0, ne-eqb _ _ (c .before .before .before .before .before .if2 .left), h2, h3) (ap Written (c .combined .ensures ∙ ap (λ (t : Bool). combined t (s .alpha)) (c .before .before .before .before .before .before .before .before .before .textured .ensures)))))
+    (λ c. rw (sym (c .before .before .before .before .before .before .before .before .alpha-from-colour .ensures) ∙ c .before .before .before .before .before .before .before .if1 .left, ne-eqb _ _ (c .before .before .before .before .before .if2 .left), sym (c .before .before .before .before .before .before .before .before .before .textured .ensures), sym (c .before .before .before .before .falls-back .ensures) ∙ c .before .before .before .if3 .left, sym (c .before .before .is-bump-op .ensures) ∙ c .before .if4 .left) (ap Written (c .combined .ensures))))

@@ -8,4 +8,4 @@ combined-spec =
     (λ c κs. tt)
     (λ c κs. tt)
     (λ c κs. tt)
-    (λ c. cc))
+    (λ c. rw (c .arg-of2 .ensures, c .before .arg-of .ensures, c .before .before .op-of .ensures)))

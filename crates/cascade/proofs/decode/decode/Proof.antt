@@ -1,6 +1,4 @@
-use mathlib.Core.Bool.{true, false}
-use mathlib.Core.Path.{_≡_}
-use Rattle.cascade.specs.Keys.{bump}
+use mathlib.Core.Path.{sym, _∙_}
 use Rattle.cascade.specs.Stages.{decode}
 use Rattle.cascade.proofs.decode.decode.Statement.{statement}
 use Rattle.cascade.proofs.decode.decode.Tie as tie
@@ -11,8 +9,8 @@ decode-spec =
     tie.close
     (tie.spec
     (λ c κs. tt)
-    (λ c. let h : bump (c .before .before .args .s) ≡ true = cc in rw h)
+    (λ c. rw (sym (c .before .is-bump .ensures) ∙ c .if1 .taken))
     (λ c κs. tt)
     (λ c κs. tt)
     (λ c κs. tt)
-    (λ c. let h : bump (c .before .before .before .before .before .args .s) ≡ false = cc in rw h (cc)))
+    (λ c. rw (sym (c .before .before .before .before .is-bump .ensures) ∙ c .before .before .before .if1 .left, c .alpha-of .ensures, c .before .expression-of .ensures, c .before .before .textured .ensures)))

@@ -1,6 +1,4 @@
-use mathlib.Core.Bool.{true, false}
-use mathlib.Core.Path.{_≡_}
-use Rattle.cascade.specs.Keys.{fallsBack}
+use mathlib.Core.Path.{sym, _∙_}
 use Rattle.cascade.specs.Stages.{expressionOf}
 use Rattle.cascade.proofs.decode.expression_of.Statement.{statement}
 use Rattle.cascade.proofs.decode.expression_of.Tie as tie
@@ -12,6 +10,6 @@ expression-of-spec =
     (tie.spec
     (λ c κs. tt)
     (λ c κs. tt)
-    (λ c. let h : fallsBack (c .before .before .before .args .textured) (c .before .before .before .args .c) ≡ true = cc in rw h (cc))
+    (λ c. rw (sym (c .before .before .falls-back .ensures) ∙ c .before .if1 .taken) (c .fallback .ensures))
     (λ c κs. tt)
-    (λ c. let h : fallsBack (c .before .before .before .args .textured) (c .before .before .before .args .c) ≡ false = cc in rw h (cc)))
+    (λ c. rw (sym (c .before .before .falls-back .ensures) ∙ c .before .if1 .left) (c .combined .ensures)))

@@ -9,4 +9,4 @@ alpha-from-colour-spec =
     (tie.spec
     (λ c κs. tt)
     (λ c κs. tt)
-    (λ c. cc))
+    (λ c. rw (c .falls-back .ensures, c .before .textured .ensures)))
