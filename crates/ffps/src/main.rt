@@ -3,16 +3,16 @@ use emission::front;
 use libc::STDERR_FILENO;
 use libc::STDIN_FILENO;
 use libc::STDOUT_FILENO;
-use records::lines::put_refused_line;
-use records::session::Session;
-use records::session::begin;
-use records::session::step;
+use session::Session;
+use session::begin;
+use session::lines::put_refused_line;
+use session::step;
 ghost use Prim.Native.Nat.{_≤_, _<_};
 ghost use mathlib.Core.Path.{_≡_};
 ghost use mathlib.Core.Bool.{true};
 ghost use lib.ListN.{length};
-ghost use Rattle.records.specs.Program.{textRoom};
-ghost use Rattle.records.specs.Steps.{Ready, lineRoom};
+ghost use Rattle.session.specs.Program.{textRoom};
+ghost use Rattle.session.specs.Steps.{Ready, lineRoom};
 
 enum End {
     // The input ended.

@@ -4,7 +4,7 @@ use native.Mathlib.Omega.{arith}
 use borrow.Author.Needs.{needs}
 use borrow.Author.Tests.{not-false}
 use lib.ListN.{length}
-use Rattle.records.specs.Steps.{Ready}
+use Rattle.session.specs.Steps.{Ready}
 use Rattle.ffps.proofs.print_output.Statement.{statement}
 use Rattle.ffps.proofs.print_output.Tie as tie
 
