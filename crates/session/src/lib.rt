@@ -9,13 +9,10 @@ use lines::put_emit_line;
 use lines::put_end_line;
 use lines::put_refused_line;
 use records::number;
-ghost use Prim.Native.Nat.{_+_, _≤_, _<_, _^_};
+ghost use Prim.Native.Nat.{_+_, _<_, _^_};
 ghost use mathlib.Core.Path.{_≡_};
-ghost use mathlib.Core.Bool.{cond, false, true};
-ghost use mathlib.Core.List.{[], _++_};
-ghost use lib.ListN.{length, take};
-ghost use Rattle.session.specs.Program.{textRoom};
-ghost use Rattle.session.specs.Steps.{Ready, begun, left, lineRoom, onwards, stepped};
+ghost use mathlib.Core.Bool.{false};
+ghost use Rattle.session.specs.Steps.{begun, lineAfter, onwards, stepOf, stepped};
 
 // The offset of the next record, the texts so far, and what is held.
 pub struct Session {
@@ -68,18 +65,22 @@ fn on(session: Session, took: usize, texts: usize, after: Held) -> Session
     }
 }
 
-// The next record of the input, applied, and what is printed for it; or the line behind the last.
-pub fn step(session: Session, input: &[u8], line: &mut [u8], text: &mut [u8]) -> Printing
-    requires { ⌜ Ready session (now input) ⌝ }
-    requires { ⌜ lineRoom ≤ length (now line) ⌝ }
-    requires { ⌜ length (now text) ≡ textRoom ⌝ }
-    ensures printed { λ r. ⌜ left session (now (input .entry)) ≡ take (r .line) (now (line .exit)) ++ (take (r .text) (now (text .exit)) ++ cond (r .more) (left (r .next) (now (input .entry))) []) ⌝ }
-    ensures ready { λ r. ⌜ Ready (r .next) (now (input .entry)) ⌝ }
-    ensures onward { λ r. ⌜ (r .more ≡ true → session .at < r .next .at) ⌝ }
+// The next record of the input, applied, and what is printed for it; or the line behind the last. A session that is no session of this input prints
+// nothing.
+pub fn step(session: Session, input: &[u8], line: &mut [u8; 96], text: &mut [u8; 16384]) -> Printing
+    ensures answer { λ r. ⌜ r ≡ stepOf session (now (input .entry)) (now (text .entry)) .answer ⌝ }
+    ensures line { λ r. ⌜ now (line .exit) ≡ lineAfter (stepOf session (now (input .entry)) (now (text .entry)) .line) (now (line .entry)) ⌝ }
+    ensures text { λ r. ⌜ now (text .exit) ≡ stepOf session (now (input .entry)) (now (text .entry)) .text ⌝ }
 {
     let at = session.at;
     let held = session.held;
-    if input.len() <= at {
+    if input.len() < at {
+        return last(0, session);
+    }
+    if at < session.texts {
+        return last(0, session);
+    }
+    if at == input.len() {
         let n = put_end_line(line, session.texts);
         return last(n, session);
     }

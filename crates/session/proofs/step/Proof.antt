@@ -1,151 +1,122 @@
-use mathlib.Core.Path.{ap, sym, _∙_}
+-- `step` answers, prints and leaves what the definition says: one case for each way out.
+use mathlib.Core.Bool.{true, false}
+use mathlib.Core.Path.{_≡_, refl, sym, ap, _∙_}
+use Prim.Native.Nat.{ℕ, _≤_, _<_, _^_}
 use native.Mathlib.Omega.{arith}
-use Prim.Native.Nat.{ℕ}
-use Rattle.session.specs.Program.{refusedLine}
-use Rattle.session.specs.Steps.{left}
-use Rattle.session.specs.declared.Session.{Session}
-use Rattle.session.proofs.Turns.{applied-rest, a-text, emit-front, end-front, last-step, left-end, left-refused, left-replaced, left-text, no-text, on-fits, on-ready, refused-front, rejoined, taken, text-front, text-sized}
 use borrow.Author.Needs.{needs}
+use lib.ListN.{length}
+use Rattle.held.specs.Applying.{textAfter}
+use Rattle.held.specs.declared.ApplyAnswer.{ApplyAnswer}
+use Rattle.session.specs.Program.{textRoom}
+use Rattle.session.specs.Steps.{answeredStep, stepped}
+use Rattle.session.proofs.LineLaws.{emit-line, end-line, refused-line}
+use Rattle.session.proofs.Steps.{a-text, answered, applied-rest, as-step, behind-input, no-text, on-fits, taken, too-many, used-up}
 use Rattle.session.proofs.step.Statement.{statement}
 use Rattle.session.proofs.step.Tie as tie
 
-put-end-line-requires : tie.Need-put-end-line-requires
-put-end-line-requires c κs = search needs
-
-last-requires : tie.Need-last-requires
-last-requires c κs = search needs
-
-same-length : tie.Need-same-length
-same-length c = search needs
+short : (s : tie.Start) → length (s .args .input .now) < 2 ^ 64
+short s = omega arith
 
 returns : tie.Need-returns
 returns c =
-    let b = c .before .before .before .before .before .before .before .before .before .before in
-    let s = b .args .session in
-    rw (c .last .ensures) (last-step (b .pre .0) (left-end s (b .args .input .now) (c .before .before .before .before .before .if1 .taken) ∙ sym (end-front (s .texts) (c .before .before .before .put-end-line .ensures) (b .pre .1 .0))))
+    let a = c .before .before .before .before .args in
+    as-step _ _ _ _ (behind-input (a .session) (a .input .now) (a .text .now) (c .before .if1 .taken)) (c .last .ensures, (refl, refl))
+
+returns-2 : tie.Need-returns-2
+returns-2 c =
+    let a = c .before .before .before .before .before .before .args in
+    as-step _ _ _ _ (too-many (a .session) (a .input .now) (a .text .now) (c .before .before .before .if1 .left) (c .before .if2 .taken)) (c .last2 .ensures, (refl, refl))
+
+returns-3 : tie.Need-returns-3
+returns-3 c =
+    let a = c .before .before .before .before .before .before .before .before .before .args in
+    let l = end-line (a .session .texts) (c .before .put-end-line .ensures) (c .before .before .put-end-line-arg .given .0 .1) in
+    as-step _ _ _ _ (used-up (a .session) (a .input .now) (a .text .now) (c .before .before .before .before .before .before .if1 .left) (c .before .before .before .before .if2 .left) (c .before .before .before .if3 .taken))
+    (c .last3 .ensures ∙ ap (λ (n : ℕ). stepped n 0 false (a .session)) (l .0), (l .1, refl))
 
 sub-apply : tie.Need-sub-apply
-sub-apply c = search needs
+sub-apply c = omega arith
 
 part-apply-start : tie.Need-part-apply-start
-part-apply-start c = search needs
+part-apply-start c = omega arith
 
 part-apply-end : tie.Need-part-apply-end
 part-apply-end c = search needs
 
-apply-requires : tie.Need-apply-requires
-apply-requires c κs = search needs
-
-enum-known-answer : tie.Need-enum-known-answer
-enum-known-answer c = search needs
-
-number-requires : tie.Need-number-requires
-number-requires c κs = search needs
-
-put-refused-line-requires : tie.Need-put-refused-line-requires
-put-refused-line-requires c κs = search needs
-
-last-requires-2 : tie.Need-last-requires-2
-last-requires-2 c κs = search needs
-
-enum-known-answer-2 : tie.Need-enum-known-answer-2
-enum-known-answer-2 c = search needs
-
 on-requires : tie.Need-on-requires
 on-requires c κs =
-    let b = c .before .before .before .before .before .before .before .before .before .before .before .before .before .before in
-    let s = b .args .session in
-    let i = b .args .input .now in
-    let e = applied-rest s i (b .pre .1 .1) (c .before .before .before .before .before .before .apply .ensures .0) in
-    on-fits s i (b .pre .0) _ 0 (taken s i (c .before .before .before .before .before .before .before .before .before .if1 .left) e (c .before .answer2 .given .1)) no-text (omega arith)
-
-enum-known-answer-3 : tie.Need-enum-known-answer-3
-enum-known-answer-3 c = search needs
-
-put-emit-line-requires : tie.Need-put-emit-line-requires
-put-emit-line-requires c κs = search needs
+    let a = c .before .before .before .before .before .before .before .before .before .before .before .before .before .args in
+    let s = a .session in
+    let i = a .input .now in
+    let w = c .before .before .before .before .before .before .before .before .before .before .if1 .left in
+    let t = c .before .before .before .before .before .before .before .before .if2 .left in
+    on-fits s i (a .text .now) w t _ 0 (taken s i (a .text .now) w t (c .before .before .before .before .before .before .before .if3 .left) (applied-rest s i (c .before .before .before .before .before .apply-arg2 .given .0 .1) (c .before .before .before .before .apply .ensures .0)) (c .before .answer2 .given .1)) no-text (short (c .before .before .before .before .before .before .before .before .before .before .before .before .before))
 
 on-requires-2 : tie.Need-on-requires-2
 on-requires-2 c κs =
-    let b = c .before .before .before .before .before .before .before .before .before .before .before .before .before .before in
-    let s = b .args .session in
-    let i = b .args .input .now in
-    let e = applied-rest s i (b .pre .1 .1) (c .before .before .before .before .before .before .apply .ensures .0) in
-    on-fits s i (b .pre .0) _ 1 (taken s i (c .before .before .before .before .before .before .before .before .before .if1 .left) e (c .before .answer3 .given .1)) a-text (omega arith)
-
-same-length-2 : tie.Need-same-length-2
-same-length-2 c = search needs
-
-same-length-3 : tie.Need-same-length-3
-same-length-3 c = search needs
-
-returns-2 : tie.Need-returns-2
-returns-2 c =
-    let b = c .before .before .before .before .before .before .before .before .before .before .before .before .before .before .before .before .before .before .before .before in
-    let s = b .args .session in
-    let i = b .args .input .now in
-    let e = applied-rest s i (b .pre .1 .1) (c .before .before .before .before .before .before .before .before .before .before .before .before .apply .ensures .0) in
-    rw (c .last2 .ensures)
-    (last-step (b .pre .0) (left-refused s i (c .before .before .before .before .before .before .before .before .before .before .before .before .before .before .before .if1 .left) e (c .before .before .before .before .before .before .before .answer .given .1)
-    ∙ sym (refused-front _ (s .at) (c .before .before .before .put-refused-line .ensures) (b .pre .1 .0) ∙ ap (λ (n : ℕ). refusedLine n (s .at)) (c .before .before .before .before .number .ensures))))
-
-same-length-4 : tie.Need-same-length-4
-same-length-4 c = search needs
-
-returns-3 : tie.Need-returns-3
-returns-3 c =
-    let b = c .before .before .before .before .before .before .before .before .before .before .before .before .before .before .before in
-    let s = b .args .session in
-    let i = b .args .input .now in
-    let e = applied-rest s i (b .pre .1 .1) (c .before .before .before .before .before .before .before .apply .ensures .0) in
-    let k = c .before .before .before .before .before .before .before .before .before .before .if1 .left in
-    let g = c .before .before .answer2 .given .1 in
-    let q = on-ready s i (b .pre .0) _ 0 (taken s i k e g) no-text _ (c .on .ensures) in
-    (left-replaced s i k e g ∙ rw (c .on .ensures), (q .0, λ _. q .1))
-
-same-length-5 : tie.Need-same-length-5
-same-length-5 c = search needs
-
-same-length-6 : tie.Need-same-length-6
-same-length-6 c = search needs
+    let a = c .before .before .before .before .before .before .before .before .before .before .before .before .before .args in
+    let s = a .session in
+    let i = a .input .now in
+    let w = c .before .before .before .before .before .before .before .before .before .before .if1 .left in
+    let t = c .before .before .before .before .before .before .before .before .if2 .left in
+    on-fits s i (a .text .now) w t _ 1 (taken s i (a .text .now) w t (c .before .before .before .before .before .before .before .if3 .left) (applied-rest s i (c .before .before .before .before .before .apply-arg2 .given .0 .1) (c .before .before .before .before .apply .ensures .0)) (c .before .answer3 .given .1)) a-text (short (c .before .before .before .before .before .before .before .before .before .before .before .before .before))
 
 returns-4 : tie.Need-returns-4
+unfolding answeredStep
 returns-4 c =
-    let b = c .before .before .before .before .before .before .before .before .before .before .before .before .before .before .before .before .before .before .before in
-    let s = b .args .session in
-    let i = b .args .input .now in
-    let e = applied-rest s i (b .pre .1 .1) (c .before .before .before .before .before .before .before .before .before .before .before .apply .ensures .0) in
-    let k = c .before .before .before .before .before .before .before .before .before .before .before .before .before .before .if1 .left in
-    let g = c .before .before .before .before .before .before .answer3 .given .1 in
-    let q = on-ready s i (b .pre .0) _ 1 (taken s i k e g) a-text _ (c .before .before .before .before .on2 .ensures) in
-    (rejoined (left-text s i k e g) (emit-front _ (c .before .before .put-emit-line .ensures) (b .pre .1 .0)) (text-front (s .held) (b .args .text .now) g (c .before .before .before .before .before .before .before .before .before .before .before .apply .ensures .1 .0) (text-sized s i k e g)) (ap (λ (y : Session). left y i) (c .before .before .before .before .on2 .ensures)), (q .0, λ _. q .1))
+    let a = c .before .before .before .before .before .before .before .before .before .before .before .before .before .before .before .before .before .args in
+    let s = a .session in
+    let i = a .input .now in
+    let g = c .before .before .before .before .before .answer .given .1 in
+    let l = refused-line _ (s .at) (c .before .put-refused-line .ensures) (c .before .before .before .put-refused-line-arg .given .0 .1) in
+    as-step _ _ _ _ (answered s i (a .text .now) (c .before .before .before .before .before .before .before .before .before .before .before .before .before .before .if1 .left) (c .before .before .before .before .before .before .before .before .before .before .before .before .if2 .left) (c .before .before .before .before .before .before .before .before .before .before .before .if3 .left) (applied-rest s i (c .before .before .before .before .before .before .before .before .before .apply-arg2 .given .0 .1) (c .before .before .before .before .before .before .before .before .apply .ensures .0)) g)
+    (rw (sym (c .before .before .number .ensures)) (c .last4 .ensures ∙ ap (λ (n : ℕ). stepped n 0 false s) (l .0), (l .1, c .before .before .before .before .before .before .before .before .apply .ensures .1 .0 ∙ ap (λ (x : ApplyAnswer). textAfter x (s .held) (a .text .now)) g)))
+
+returns-5 : tie.Need-returns-5
+unfolding answeredStep
+returns-5 c =
+    let a = c .before .before .before .before .before .before .before .before .before .before .before .before .before .before .args in
+    let s = a .session in
+    let i = a .input .now in
+    let g = c .before .before .answer2 .given .1 in
+    as-step _ _ _ _ (answered s i (a .text .now) (c .before .before .before .before .before .before .before .before .before .before .before .if1 .left) (c .before .before .before .before .before .before .before .before .before .if2 .left) (c .before .before .before .before .before .before .before .before .if3 .left) (applied-rest s i (c .before .before .before .before .before .before .apply-arg2 .given .0 .1) (c .before .before .before .before .before .apply .ensures .0)) g)
+    (ap (stepped 0 0 true) (c .on .ensures), (refl, c .before .before .before .before .before .apply .ensures .1 .0 ∙ ap (λ (x : ApplyAnswer). textAfter x (s .held) (a .text .now)) g))
+
+returns-6 : tie.Need-returns-6
+unfolding answeredStep
+returns-6 c =
+    let a = c .before .before .before .before .before .before .before .before .before .before .before .before .before .before .before .before .args in
+    let s = a .session in
+    let i = a .input .now in
+    let g = c .before .before .before .before .answer3 .given .1 in
+    let l = emit-line _ (c .put-emit-line .ensures) (c .before .put-emit-line-arg .given .0 .1) in
+    as-step _ _ _ _ (answered s i (a .text .now) (c .before .before .before .before .before .before .before .before .before .before .before .before .before .if1 .left) (c .before .before .before .before .before .before .before .before .before .before .before .if2 .left) (c .before .before .before .before .before .before .before .before .before .before .if3 .left) (applied-rest s i (c .before .before .before .before .before .before .before .before .apply-arg2 .given .0 .1) (c .before .before .before .before .before .before .before .apply .ensures .0)) g)
+    (rw (l .0, c .before .before .on2 .ensures), (l .1, c .before .before .before .before .before .before .before .apply .ensures .1 .0 ∙ ap (λ (x : ApplyAnswer). textAfter x (s .held) (a .text .now)) g))
 
 pub step-spec : {M : Type 1} → statement M
 step-spec =
     tie.close
     (tie.spec
-    put-end-line-requires
-    last-requires
-    same-length
+    (λ c κs. tt)
     returns
+    (λ c κs. tt)
+    returns-2
+    (λ c κs. tt)
+    (λ c κs. tt)
+    returns-3
     sub-apply
     part-apply-start
     part-apply-end
-    apply-requires
-    enum-known-answer
-    number-requires
-    put-refused-line-requires
-    last-requires-2
-    enum-known-answer-2
+    (λ c κs. tt)
+    (λ c. search needs)
+    (λ c κs. tt)
+    (λ c κs. tt)
+    (λ c κs. tt)
+    (λ c. search needs)
     on-requires
-    enum-known-answer-3
+    (λ c. search needs)
     on-requires-2
-    put-emit-line-requires
-    same-length-2
-    same-length-3
-    returns-2
-    same-length-4
-    returns-3
-    same-length-5
-    same-length-6
-    returns-4)
+    (λ c κs. tt)
+    returns-4
+    returns-5
+    returns-6)

@@ -3,7 +3,7 @@ use native.Mathlib.Omega.{arith}
 use borrow.Author.Needs.{needs}
 use Rattle.text.specs.Text.{decimalOf}
 use Rattle.text.proofs.Laws.{_⨾_, nothing, keeps}
-use Rattle.session.proofs.Turns.{digits-one, digits-more}
+use Rattle.session.proofs.LineLaws.{digits-one, digits-more}
 use Prim.Native.Nat.{ℕ, _<_}
 use borrow.Fn.Kinds.{In}
 use borrow.Fn.PlainCycle.{Measures, is, falls, and}
