@@ -4,12 +4,13 @@
  *   texts records NAME    the records of the text NAME and an emit record, in hexadecimal, one to a line
  *   texts whole NAME      the text NAME as it is
  *   texts word WORD N     the shortest text (0), the rich one (1) or a small one (2 to 49) under the entry WORD, as it is
- *   texts word-records WORD N
+ *   texts word-records WORD N    the records of that text
  *   texts attributes      looks at the attributes of one text on standard input
  *
- * Corpora: worked, everyday, selectors, kinds, flags, lookups, bump, mixed; and sweep, whose texts are not all accepted and whose equal texts are told
- * in lines `// same NAME EARLIER`.
+ * Corpora: worked, everyday, selectors, kinds, flags, lookups, bump, mixed; and sweep, whose texts clang does not all accept, and where a text that
+ * was there before is told in a line `// same NAME EARLIER`.
  */
+#define _POSIX_C_SOURCE 200809L
 #include <stdarg.h>
 #include <stdbool.h>
 #include <stdint.h>
@@ -18,6 +19,8 @@
 #include <string.h>
 
 #include "../include/yuzuknoll.h"
+
+#define COUNT(array) (sizeof(array) / sizeof((array)[0]))
 
 enum { STAGES = 8, STAGE_LENGTH = 7 };
 enum { DISABLE = 1, SELECTARG1 = 2, BUMP = 22, BUMP_LUMINANCE = 23 };
@@ -104,7 +107,8 @@ static struct {
 static uint8_t text[YUZUKNOLL_TEXT_LENGTH + 1];
 
 static size_t emitted(const struct input *in, const char *name) {
-    uint64_t answer = yuzuknoll_emit(in->key, sizeof in->key, in->variant, sizeof in->variant, in->entry, sizeof in->entry, text, YUZUKNOLL_TEXT_LENGTH);
+    uint64_t answer = yuzuknoll_emit(in->key, sizeof in->key, in->variant, sizeof in->variant, in->entry, sizeof in->entry, text,
+                                     YUZUKNOLL_TEXT_LENGTH);
     if (yuzuknoll_refusal(answer) != YUZUKNOLL_ACCEPTED) fail("the emitter refuses it", name);
     return yuzuknoll_length(answer);
 }
@@ -136,14 +140,15 @@ enum { ATTRIBUTE_LIMIT = 128 };
 static const struct {
     const char *name;
     unsigned long limit;
-} attributes[] = {{"position, invariant", 0}, {"flat", 0},        {"center_no_perspective", 0}, {"point_size", 0}, {"stage_in", 0}, {"point_coord", 0},
-                  {"sample_mask", 0},         {"color", 8},       {"buffer", 31},               {"texture", 128},  {"sampler", 16}};
+} attributes[] = {{"position, invariant", 0}, {"flat", 0},        {"center_no_perspective", 0}, {"point_size", 0}, {"stage_in", 0},
+                  {"point_coord", 0},         {"sample_mask", 0}, {"color", 8},                 {"buffer", 31},    {"texture", 128},
+                  {"sampler", 16}};
 
 static size_t attribute_of(const char *word, size_t length, const char *name) {
-    size_t at = 0;
-    while (at < sizeof attributes / sizeof attributes[0] && (strlen(attributes[at].name) != length || memcmp(attributes[at].name, word, length) != 0)) at++;
-    if (at == sizeof attributes / sizeof attributes[0]) fail("an unknown attribute", name);
-    return at;
+    for (size_t at = 0; at < COUNT(attributes); at++)
+        if (strlen(attributes[at].name) == length && memcmp(attributes[at].name, word, length) == 0) return at;
+    fail("an unknown attribute", name);
+    return 0;
 }
 
 static void check_attribute(const char *inside, bool (*used)[ATTRIBUTE_LIMIT], const char *name) {
@@ -162,7 +167,7 @@ static void check_attribute(const char *inside, bool (*used)[ATTRIBUTE_LIMIT], c
 }
 
 static void check_attributes(size_t length, const char *name) {
-    bool used[sizeof attributes / sizeof attributes[0]][ATTRIBUTE_LIMIT] = {{false}};
+    bool used[COUNT(attributes)][ATTRIBUTE_LIMIT] = {{false}};
     text[length] = 0;
     for (const char *at = strstr((const char *)text, "[["); at != NULL; at = strstr(at + 2, "[[")) check_attribute(at + 2, used, name);
 }
@@ -171,7 +176,7 @@ static void check_attributes(size_t length, const char *name) {
 static void write_in_namespace(const char *name, size_t length) {
     static const char include[] = "#include <metal_stdlib>\n";
     size_t skipped = sizeof include - 1;
-    if (length < skipped || memcmp(text, include, skipped) != 0) fail("does not begin with its include", name);
+    if (length < skipped || memcmp(text, include, skipped) != 0) fail("it does not begin with its include", name);
     printf("#line 1 \"%s\"\nnamespace %s {\n", name, name);
     fwrite(text + skipped, 1, length - skipped, stdout);
     fputs("}\n", stdout);
@@ -259,7 +264,6 @@ static int weighted(const struct choice *from, size_t count) {
     return from[at].value;
 }
 
-#define COUNT(array) (sizeof(array) / sizeof((array)[0]))
 #define WEIGHTED(...) weighted((const struct choice[]){__VA_ARGS__}, COUNT(((const struct choice[]){__VA_ARGS__})))
 
 /* ---- Corpora ---- */
@@ -354,8 +358,8 @@ static void put_selectors(struct combiner c, bool alpha, int flags) {
     put(&in, "selectors_%s_op%d_%d_%d_flags%d_read", role, c.op, c.first, c.second, flags);
 }
 
-/* One stage: every op with every pair of selectors, in colour and in alpha, with a texture and without, to CURRENT, to TEMP, and to TEMP with a reader
- * behind it. A name that is declared here is used by this one stage or by none. */
+/* One stage: every op with every pair of selectors, in colour and in alpha, with a texture and without, to CURRENT, to TEMP, and to TEMP with a
+ * reader behind it. A name that is declared here is used by this one stage or by none. */
 static void selectors(void) {
     for (size_t op = 0; op < COUNT(ops); op++)
         for (int pair = 0; pair < 256; pair++)
@@ -439,8 +443,8 @@ static const char *bits_name(unsigned bits) {
 
 static const char *verdict(bool refused) { return refused ? "refused" : "accepted"; }
 
-/* The lookups of a stage, those that the rule refuses only where they are wanted: every combination of its bits, at every stage, projected or not, with every kind of
- * stage before it, with and without LOD_BIAS and POINT_SPRITE. */
+/* The lookups of a stage, those that the rule refuses only where they are wanted: every combination of its bits, at every stage, projected or not,
+ * with every kind of stage before it; at stages 0 and 1 also with LOD_BIAS and POINT_SPRITE. */
 static void put_lookups(const char *corpus, bool refused_too) {
     for (unsigned bits = 0; bits < 1u << MASKS; bits++) {
         if (lookup_refused(bits) && !refused_too) continue;
@@ -499,7 +503,8 @@ static void bump(void) {
 }
 
 static int mixed_argument(void) {
-    int selector = percent(94) ? WEIGHTED({8, TEXTURE}, {4, TEMP}, {4, CONSTANT}, {3, DIFFUSE}, {3, CURRENT}, {2, TFACTOR}, {2, SPECULAR}) : 7 + below(9);
+    int known = WEIGHTED({8, TEXTURE}, {4, TEMP}, {4, CONSTANT}, {3, DIFFUSE}, {3, CURRENT}, {2, TFACTOR}, {2, SPECULAR});
+    int selector = percent(94) ? known : 7 + below(9);
     return selector | (percent(60) ? 0 : below(16) << 4);
 }
 
@@ -510,7 +515,7 @@ static struct combiner mixed_combiner(void) {
     return c;
 }
 
-/* Unusual keys and variants in which textures, TEMP, bump stages, constants and unknown codes meet, the stage bits among those that are not refused. */
+/* Unusual keys and variants in which textures, TEMP, bump stages, constants and unknown codes meet, with stage bits that the rule does not refuse. */
 static void mixed(void) {
     state = 2;
     for (int i = 0; i < 1000; i++) {
@@ -533,8 +538,8 @@ static void mixed(void) {
 
 /* ---- Texts for entry words ---- */
 
-/* Every kind of texture and of lookup, divided, displaced and projected coordinates, TEMP, constants, a dot product, specular add, EXP2 fog, a test and
- * every flag: every word that a text can have, but for stage numbers and fog_range. */
+/* Every kind of texture and of lookup, divided, displaced and projected coordinates, TEMP, constants, a dot product, specular add, EXP2 fog, a test
+ * and every flag: every word that a text can have, but for stage numbers, fog_range, false and true. */
 static struct input rich(void) {
     struct input in = nothing();
     for (int i = 0; i < STAGES; i++) set_lookup(&in, i);
