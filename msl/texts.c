@@ -5,6 +5,8 @@
  *   texts whole NAME      the text NAME as it is
  *   texts word WORD N     the shortest text (0), the rich one (1) or a small one (2 to 49) under the entry WORD, as it is
  *   texts word-records WORD N    the records of that text
+ *   texts words N         a file with the text N for each word on standard input, under its name in this folder
+ *   texts smalls WORD     a file for each of the small texts, under its number in this folder
  *   texts attributes      looks at the attributes of one text on standard input
  *
  * Corpora: worked, everyday, selectors, kinds, flags, lookups, bump, mixed; and sweep, whose texts clang does not all accept, and where a text that
@@ -113,7 +115,7 @@ static size_t emitted(const struct input *in, const char *name) {
     return yuzuknoll_length(answer);
 }
 
-/* The name of an earlier equal text, or null for a new one, which is kept. Texts are told apart by 64 bits of FNV-1a: that two of some 30,000 fall
+/* The name of an earlier equal text, or null for a new one, which is kept. Texts are told apart by 64 bits of FNV-1a: that two of some 9,000 fall
  * together by chance, and one of them stays unread, is less likely than one in ten thousand million. */
 static const char *earlier(const char *name, size_t length) {
     enum { SLOTS = 1 << 18 };
@@ -369,27 +371,36 @@ static void selectors(void) {
 
 /* Eight stages, stage i with selector i as argument 2: every op with every argument 1 (selectors 0 to 7 with every complement and alpha replicate)
  * and every argument 2, in colour and in alpha. */
-static void put_kinds(int op, int first, int modifier, bool alpha, bool textured) {
+enum role { IN_COLOUR, IN_ALPHA, IN_BOTH };
+static const char *const role_names[] = {"colour", "alpha", "both"};
+
+static void put_kinds(int op, int first, int modifier, enum role role, bool textured) {
     struct input in = nothing();
     for (int i = 0; i < STAGES; i++) {
         struct combiner c = {op, first, modifier | i};
-        set_stage(&in, i, alpha ? diffuse : c, alpha ? c : kept, textured ? TEXTURED : 0);
+        set_stage(&in, i, role == IN_ALPHA ? diffuse : c, role == IN_COLOUR ? kept : c, textured ? TEXTURED : 0);
     }
-    put(&in, "kinds_%s_op%d_%02x_%xx%s", alpha ? "alpha" : "colour", op, (unsigned)first, (unsigned)modifier >> 4, textured ? "_textured" : "");
+    put(&in, "kinds_%s_op%d_%02x_%xx%s", role_names[role], op, (unsigned)first, (unsigned)modifier >> 4, textured ? "_textured" : "");
+}
+
+static void put_roles(int op, int first, int modifier) {
+    /* Ops 1, 22, 23 and 24 in colour decide what becomes of alpha. */
+    if (op == DISABLE || op >= BUMP) {
+        put_kinds(op, first, modifier, IN_COLOUR, true);
+        put_kinds(op, first, modifier, IN_ALPHA, true);
+        return;
+    }
+    put_kinds(op, first, modifier, IN_BOTH, true);
+    /* Without a texture only these have another text. */
+    if (op == 13 || op == 15) put_kinds(op, first, modifier, IN_BOTH, false);
 }
 
 static void kinds(void) {
     for (size_t op = 0; op < COUNT(ops); op++)
         for (int first = 0; first < 32; first++)
-            for (int modifier = 0; modifier < 4; modifier++)
-                for (int role = 0; role < 4; role++) {
-                    /* Without a texture only ops 13 and 15 have another text. */
-                    if ((role & 2) != 0 && ops[op] != 13 && ops[op] != 15) continue;
-                    put_kinds(ops[op], (first & 7) | (first >> 3) << 4, modifier << 4, (role & 1) != 0, (role & 2) == 0);
-                }
+            for (int modifier = 0; modifier < 4; modifier++) put_roles(ops[op], (first & 7) | (first >> 3) << 4, modifier << 4);
     /* Bits 0x40 and 0x80 have no effect. */
-    for (int bits = 1; bits < 4; bits++)
-        for (int role = 0; role < 2; role++) put_kinds(4, bits << 6 | TEXTURE, bits << 6, role == 1, true);
+    for (int bits = 1; bits < 4; bits++) put_roles(4, bits << 6 | TEXTURE, bits << 6);
 }
 
 static void put_flags(int fog_mode, int table, int function, int flags, int specular) {
@@ -402,7 +413,7 @@ static void put_flags(int fog_mode, int table, int function, int flags, int spec
     put(&in, "flags_%d_fog%d_table%d_function%d%s", flags, fog_mode, table, function, specular ? "_specular" : "");
 }
 
-/* Every flag, fog and test combination, with specular add and without; every sample mask. */
+/* Every flag, fog and test combination; specular add with every flag; every sample mask. */
 static void flags(void) {
     static const int fogs[] = {0, 1, 2, 3, 4, 255};
     static const int functions[] = {0, 1, 2, 3, 4, 5, 6, 7, 8, 9, 128, 255};
@@ -410,7 +421,8 @@ static void flags(void) {
         for (size_t mode = 0; mode < COUNT(fogs); mode++)
             for (size_t table = 0; table < COUNT(fogs); table++)
                 for (size_t function = 0; function < COUNT(functions); function++)
-                    for (int specular = 0; specular < 2; specular++) put_flags(fogs[mode], fogs[table], functions[function], set, specular);
+                    put_flags(fogs[mode], fogs[table], functions[function], set, 0);
+    for (int set = 0; set <= ALL_FLAGS; set++) put_flags(3, 3, 5, set, 1);
     for (int mask = 0; mask < 256; mask++) {
         struct input in = nothing();
         set_sample_mask(&in, mask);
@@ -518,7 +530,7 @@ static struct combiner mixed_combiner(void) {
 /* Unusual keys and variants in which textures, TEMP, bump stages, constants and unknown codes meet, with stage bits that the rule does not refuse. */
 static void mixed(void) {
     state = 2;
-    for (int i = 0; i < 1000; i++) {
+    for (int i = 0; i < 500; i++) {
         struct input in = nothing();
         for (int stage = 0; stage < STAGES; stage++) {
             struct combiner colour = mixed_combiner(), alpha = mixed_combiner();
@@ -585,19 +597,61 @@ static struct input small(int number) {
 }
 
 enum { SMALL_TEXTS = 6 + 6 + MASKS + (MASKS + 1) + MASKS * (MASKS - 1) / 2 };
-_Static_assert(SMALL_TEXTS == 48, "msl/sweep counts them");
+_Static_assert(SMALL_TEXTS == 48, "the usage says so");
+
+static struct input word_input(const char *word, int number) {
+    struct input in = number == 0 ? nothing() : number == 1 ? rich() : small(number - 2);
+    set_entry(&in, word);
+    return in;
+}
+
+static int number_of(const char *digits) {
+    char *end;
+    unsigned long number = strtoul(digits, &end, 10);
+    if (*digits == 0 || *end != 0 || number >= SMALL_TEXTS + 2) fail("is not 0 to 49", digits);
+    return (int)number;
+}
 
 static void put_word(const char *word, const char *number, bool records) {
-    char *end;
-    unsigned long n = strtoul(number, &end, 10);
-    if (*number == 0 || *end != 0 || n >= SMALL_TEXTS + 2) fail("is not 0 to 49", number);
-    struct input in = n == 0 ? nothing() : n == 1 ? rich() : small((int)n - 2);
-    set_entry(&in, word);
+    struct input in = word_input(word, number_of(number));
     size_t length = emitted(&in, word);
     if (records) {
         write_records(&in);
     } else {
         fwrite(text, 1, length, stdout);
+    }
+}
+
+/* The stand-in's vector constructors are macros, and Metal's are not. */
+static bool is_constructor(const char *word) {
+    static const char *const constructors[] = {"float2", "float3", "float4", "int2", "int3", "int4", "uint2", "uint3", "uint4"};
+    for (size_t i = 0; i < COUNT(constructors); i++)
+        if (strcmp(word, constructors[i]) == 0) return true;
+    return false;
+}
+
+/* A file with a text under a word as its entry, whole and in no namespace, where names would be found otherwise. */
+static void write_file(const char *path, const char *word, int number) {
+    struct input in = word_input(word, number);
+    size_t length = emitted(&in, word);
+    FILE *file = fopen(path, "w");
+    if (file == NULL) fail("cannot be opened", path);
+    fputs("#include <metal_stdlib>\n", file);
+    if (is_constructor(word)) fprintf(file, "#undef %s\n", word);
+    fprintf(file, "#line 1 \"%s\"\n", path);
+    fwrite(text, 1, length, file);
+    if (ferror(file) || fclose(file) != 0) fail("is not written", path);
+}
+
+static void write_word_files(int number) {
+    char word[64];
+    while (scanf("%63s", word) == 1) write_file(word, word, number);
+}
+
+static void write_small_files(const char *word) {
+    for (int number = 2; number < SMALL_TEXTS + 2; number++) {
+        char path[3] = {(char)('0' + number / 10), (char)('0' + number % 10), 0};
+        write_file(path, word, number);
     }
 }
 
@@ -630,6 +684,10 @@ int main(int count, char **words) {
         put_word(words[2], words[3], false);
     } else if (count == 4 && strcmp(words[1], "word-records") == 0) {
         put_word(words[2], words[3], true);
+    } else if (count == 3 && strcmp(words[1], "words") == 0) {
+        write_word_files(number_of(words[2]));
+    } else if (count == 3 && strcmp(words[1], "smalls") == 0) {
+        write_small_files(words[2]);
     } else if (count == 2 && strcmp(words[1], "attributes") == 0) {
         check_attributes(fread(text, 1, YUZUKNOLL_TEXT_LENGTH, stdin), "standard input");
     } else {
