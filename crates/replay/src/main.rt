@@ -80,8 +80,7 @@ fn compare_step(
 }
 
 // Whether what is printed for the input is what is expected.
-fn same_output(input: &[u8], expected: &[u8], line: &mut [u8; 96], text: &mut [u8; 16384]) -> bool
-{
+fn same_output(input: &[u8], expected: &[u8], line: &mut [u8; 96], text: &mut [u8; 16384]) -> bool {
     let mut session = begin();
     let mut at = 0;
     loop {
@@ -203,8 +202,7 @@ fn replay_case(list: &[u8], at: usize, line: &mut [u8; 96], text: &mut [u8; 1638
     }
 }
 
-fn replay(list: &[u8], line: &mut [u8; 96], text: &mut [u8; 16384])
-{
+fn replay(list: &[u8], line: &mut [u8; 96], text: &mut [u8; 16384]) {
     let mut at = 0;
     let mut cases = 0;
     let mut differences = 0;
@@ -221,8 +219,7 @@ fn replay(list: &[u8], line: &mut [u8; 96], text: &mut [u8; 16384])
     report(cases, differences);
 }
 
-fn run(list: &mut [u8], line: &mut [u8; 96], text: &mut [u8; 16384])
-{
+fn run(list: &mut [u8], line: &mut [u8; 96], text: &mut [u8; 16384]) {
     let fd = os::open_read(b"answers.bin");
     if fd < 0 {
         os::fail(b"answers.bin");
