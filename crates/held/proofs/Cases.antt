@@ -9,7 +9,7 @@ use Rattle.metal.specs.declared.Refusal.{Refusal as EmissionRefusal}
 use Rattle.metal.specs.declared.Answer.{Answer}
 use Rattle.metal.specs.declared.Answer.the-variants as emission-answer
 use Rattle.records.specs.Reading.{readRecord}
-use Rattle.held.specs.Applying.{holdsAll, holding, replacedBy, refusalOf, emissionAnswer, applyAs, applyRead, heldAfter, applied}
+use Rattle.held.specs.Applying.{holdsAll, holding, replacedBy, refusedWith, refusalOf, emissionAnswer, applyAs, applyRead, heldAfter, applied}
 use Rattle.records.specs.declared.Kind.{Kind}
 use Rattle.records.specs.declared.Kind.the-variants as kind
 use Rattle.records.specs.declared.Record.{Record}
@@ -53,7 +53,7 @@ module _ (h : Held) (b : List ℕ) (room : ℕ) {x : Reading} (e : x ≡ readRec
   by-answer : {a : ReadAnswer} → x .answer ≡ a → outcome a (x .found) h room ≡ applied h b room
   by-answer t = ap (λ (a : ReadAnswer). outcome a (x .found) h room) (sym t) ∙ ap (λ (y : Reading). outcome (y .answer) (y .found) h room) e
 
-  pub apply-refused : {c : Refusal} → x .answer ≡ read.Refused c → record { answer = Refused c; held = h } ≡ applied h b room
+  pub apply-refused : {c : Refusal} → x .answer ≡ read.Refused c → refusedWith c h ≡ applied h b room
   unfolding applyRead
   apply-refused t = by-answer t
 

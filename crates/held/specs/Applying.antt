@@ -53,6 +53,10 @@ holding kind.Emit r h = h
 abbrev pub replacedBy : ℕ → Held → Applied
 replacedBy n h = record { answer = Replaced n; held = h }
 
+-- a refused record, with what is held then
+abbrev pub refusedWith : Refusal → Held → Applied
+refusedWith c h = record { answer = Refused c; held = h }
+
 -- a refusal of emission, with the same number
 abbrev pub refusalOf : EmissionRefusal → Refusal
 refusalOf emission-refusal.StageFlags = StageFlags

@@ -14,7 +14,7 @@ use records::make::blank_record;
 use records::reader::read;
 ghost use mathlib.Core.Path.{_≡_};
 ghost use lib.ListN.{length};
-ghost use Rattle.held.specs.Applying.{Demanded, applied, applyAs, holding, holdsAll, nothingHeld, refusalOf, replacedBy, textAfter};
+ghost use Rattle.held.specs.Applying.{Demanded, applied, applyAs, holding, holdsAll, nothingHeld, refusalOf, refusedWith, replacedBy, textAfter};
 
 // The held values, each there or not.
 pub struct Held {
@@ -96,10 +96,20 @@ fn replaced(n: usize, after: Held) -> Applied
     }
 }
 
+// A refusal leaves what is held.
+fn refused(refusal: Refusal, kept: Held) -> Applied
+    ensures { λ r. ⌜ r ≡ refusedWith refusal kept ⌝ }
+{
+    Applied {
+        answer: ApplyAnswer::Refused(refusal),
+        held: kept,
+    }
+}
+
 fn holds_all(held: Held) -> bool
     ensures { λ r. ⌜ r ≡ holdsAll held ⌝ }
 {
-    held.has_key && held.has_variant && held.has_entry
+    held.has_key & (held.has_variant & held.has_entry)
 }
 
 // Emission's refusal, with the same number.
@@ -143,10 +153,7 @@ pub fn apply(held: Held, bytes: &[u8], text: &mut [u8]) -> Applied
     let found = reading.found;
     let kind = found.kind;
     match answer {
-        ReadAnswer::Refused(refusal) => Applied {
-            answer: ApplyAnswer::Refused(refusal),
-            held: held,
-        },
+        ReadAnswer::Refused(refusal) => refused(refusal, held),
         ReadAnswer::Took(n) => match kind {
             Kind::Key => replaced(n, hold_key(found, held)),
             Kind::Variant => replaced(n, hold_variant(found, held)),

@@ -16,6 +16,7 @@ use Rattle.held.specs.declared.ApplyAnswer.the-variants as answer
 use Rattle.session.specs.Program.{inputRoom, textRoom, endLine, printed, printedFrom, programOutput}
 use Rattle.session.specs.Steps.{Step, begun, onwards, lastStep, answeredStep, ready, stepOf}
 use Rattle.session.specs.declared.Session.{Session}
+use Rattle.session.specs.declared.Printing.{Printing}
 use Rattle.session.proofs.Taking.{Takes, takes, Sized, sized}
 use Rattle.session.proofs.Steps.{used-up, answered}
 
@@ -37,7 +38,7 @@ either s b true x y p q = p
 either s b false x y p q = q
 
 -- where there is more, the next session stands further on in the input
-pub onward : (s : Session) (b out : List ℕ) → Onward s b (stepOf s b out)
+onward : (s : Session) (b out : List ℕ) → Onward s b (stepOf s b out)
 unfolding stepOf
 onward s b out =
     let a = applied (s .held) (drop (s .at) b) textRoom in
@@ -46,6 +47,9 @@ onward s b out =
     either s b (ready s b) (cond (eqb (s .at) (length b)) e r) (lastStep [] s out)
     (either s b (eqb (s .at) (length b)) e r (last-onward (endLine (s .texts)) s b out) (answered-onward (a .answer) (a .held) s b out (takes (s .held) (drop (s .at) b) textRoom)))
     (last-onward [] s b out)
+
+pub further : (s : Session) (b out : List ℕ) {p : Printing} → p ≡ stepOf s b out .answer → p .more ≡ true → (s .at < p .next .at) × (p .next .at ≤ length b)
+further s b out e = rw e (λ q. let o = onward s b out q in (o .0, o .1 .0))
 
 -- what is still to be printed for the input b
 unfoldable left : Session → List ℕ → List ℕ

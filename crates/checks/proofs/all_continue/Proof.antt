@@ -1,7 +1,6 @@
 use mathlib.Core.Path.{_≡_, sym, _∙_}
 use Prim.Native.Nat.{_≤_, _-_}
 use native.Mathlib.Omega.{arith}
-use borrow.Author.Needs.{needs}
 use borrow.Author.Tests.{not-true, not-false}
 use lib.ListN.{length, drop}
 use Rattle.metal.specs.Results.{all, continuesName}
@@ -21,9 +20,6 @@ loop-holds c = (omega arith, cc)
 
 shared-slice-read-continues-name : tie.Need-shared-slice-read-continues-name Inv-loop μ-loop
 shared-slice-read-continues-name c = omega arith
-
-continues-name-requires : tie.Need-continues-name-requires Inv-loop μ-loop
-continues-name-requires c κs = search needs
 
 returns : tie.Need-returns Inv-loop μ-loop
 returns c = let b = c .before .before .before .before in
@@ -51,7 +47,7 @@ all-continue-spec =
     μ-loop
     loop-holds
     shared-slice-read-continues-name
-    continues-name-requires
+    (λ c κs. tt)
     returns
     add-i
     loop-less

@@ -46,37 +46,19 @@ long e h = rw (lt-leb _ _ h)
 named : (s : tie.Start) → length (s .args .entry .name) ≡ 32
 named s = sym (length-map (s .args .entry .name) _) ∙ s .good .0 .1 .1 .1 .0 .1 .0 .1
 
-cast-end : tie.Need-cast-end
-cast-end c = search needs
-
 returns : tie.Need-returns
 returns c = empty _ (c .if1 .taken)
 
 returns-2 : tie.Need-returns-2
 returns-2 c = long _ (c .if2 .taken)
 
-array-read-starts-name : tie.Need-array-read-starts-name
-array-read-starts-name c = search needs
-
-starts-name-requires : tie.Need-starts-name-requires
-starts-name-requires c κs = search needs
-
 returns-3 : tie.Need-returns-3
 returns-3 c =
     let s = c .before .before .before .before .before .before in
     bad-first (s .args .entry) (omega arith) (omega arith) (named s) (sym (c .before .starts-name .ensures) ∙ not-true _ (c .if3 .taken))
 
-sub-all-continue : tie.Need-sub-all-continue
-sub-all-continue c = search needs
-
-part-all-continue-start : tie.Need-part-all-continue-start
-part-all-continue-start c = search needs
-
 part-all-continue-end : tie.Need-part-all-continue-end
 part-all-continue-end c = let h = named (c .before .before .before .before .before .before .before) in omega arith
-
-all-continue-requires : tie.Need-all-continue-requires
-all-continue-requires c κs = search needs
 
 returns-4 : tie.Need-returns-4
 returns-4 c =
@@ -85,14 +67,8 @@ returns-4 c =
     (sym (c .before .before .before .before .before .starts-name .ensures) ∙ not-false _ (c .before .before .before .before .if3 .left))
     (sym (c .before .all-continue .ensures) ∙ not-true _ (c .if4 .taken))
 
-part-all-zero-start : tie.Need-part-all-zero-start
-part-all-zero-start c = search needs
-
 part-all-zero-end : tie.Need-part-all-zero-end
 part-all-zero-end c = let h = named (c .before .before .before .before .before .before .before .before .before .before .before) in omega arith
-
-all-zero-requires : tie.Need-all-zero-requires
-all-zero-requires c κs = search needs
 
 returns-5 : tie.Need-returns-5
 returns-5 c =
@@ -106,18 +82,18 @@ pub entry-good-spec : {M : Type 1} → statement M
 entry-good-spec =
     tie.close
     (tie.spec
-    cast-end
+    (λ c. search needs)
     returns
     returns-2
-    array-read-starts-name
-    starts-name-requires
+    (λ c. search needs)
+    (λ c κs. tt)
     returns-3
-    sub-all-continue
-    part-all-continue-start
+    (λ c. search needs)
+    (λ c. search needs)
     part-all-continue-end
-    all-continue-requires
+    (λ c κs. tt)
     returns-4
-    part-all-zero-start
+    (λ c. search needs)
     part-all-zero-end
-    all-zero-requires
+    (λ c κs. tt)
     returns-5)

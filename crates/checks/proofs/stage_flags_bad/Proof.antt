@@ -36,12 +36,6 @@ abbrev μ-loop : tie.MeasureT-loop
 loop-holds : tie.Need-loop-holds Inv-loop μ-loop
 loop-holds c = (omega arith, sym (length-map (c .args .t1 .stages) _) ∙ c .good .0 .1 .1 .0 .1 .0 .1, cc)
 
-mul-s : tie.Need-mul-s Inv-loop μ-loop
-mul-s c = search needs
-
-element-copy-out-s : tie.Need-element-copy-out-s Inv-loop μ-loop
-element-copy-out-s c = search needs
-
 returns : tie.Need-returns Inv-loop μ-loop
 returns c =
     let b = c .before .before .before .before in
@@ -70,8 +64,8 @@ stage-flags-bad-spec =
     Inv-loop
     μ-loop
     loop-holds
-    mul-s
-    element-copy-out-s
+    (λ c. search needs)
+    (λ c. search needs)
     returns
     add-i
     loop-less

@@ -5,35 +5,14 @@ use borrow.Author.Needs.{needs}
 use Rattle.held.proofs.emit_held.Statement.{statement}
 use Rattle.held.proofs.emit_held.Tie as tie
 
-holds-all-requires : tie.Need-holds-all-requires
-holds-all-requires c κs = search needs
-
 returns : tie.Need-returns
 returns c = (emit-early _ _ _ (c .before .holds-all .ensures) (not-true _ (c .if1 .taken)), (refl, tt))
-
-emit-requires : tie.Need-emit-requires
-emit-requires c κs = search needs
-
-enum-known-emitted : tie.Need-enum-known-emitted
-enum-known-emitted c = search needs
-
-enum-known-refusal : tie.Need-enum-known-refusal
-enum-known-refusal c = search needs
-
-refusal-of-requires : tie.Need-refusal-of-requires
-refusal-of-requires c κs = search needs
-
-same-length : tie.Need-same-length
-same-length c = search needs
 
 returns-2 : tie.Need-returns-2
 returns-2 c =
     let e = c .before .before .before .before .before .emit .ensures in
     let g = c .before .emitted .given .1 in
     (emit-text _ _ _ (c .before .before .before .before .before .before .before .before .holds-all .ensures) (not-false _ (c .before .before .before .before .before .before .before .if1 .left)) (e .0) g, (rw g at (e .1 .0), rw g at (e .1 .1)))
-
-same-length-2 : tie.Need-same-length-2
-same-length-2 c = search needs
 
 returns-3 : tie.Need-returns-3
 returns-3 c =
@@ -45,13 +24,13 @@ pub emit-held-spec : {M : Type 1} → statement M
 emit-held-spec =
     tie.close
     (tie.spec
-    holds-all-requires
+    (λ c κs. tt)
     returns
-    emit-requires
-    enum-known-emitted
-    enum-known-refusal
-    refusal-of-requires
-    same-length
+    (λ c κs. tt)
+    (λ c. search needs)
+    (λ c. search needs)
+    (λ c κs. tt)
+    (λ c. search needs)
     returns-2
-    same-length-2
+    (λ c. search needs)
     returns-3)

@@ -1,14 +1,10 @@
 use Rattle.held.specs.Applying.{nothingHeld}
-use borrow.Author.Needs.{needs}
 use Rattle.held.proofs.nothing_held.Statement.{statement}
 use Rattle.held.proofs.nothing_held.Tie as tie
-
-blank-record-requires : tie.Need-blank-record-requires
-blank-record-requires c κs = search needs
 
 returns : tie.Need-returns
 unfolding nothingHeld
 returns c = rw (c .before .before .before .blank-record .ensures)
 
 pub nothing-held-spec : {M : Type 1} → statement M
-nothing-held-spec = tie.close (tie.spec blank-record-requires returns)
+nothing-held-spec = tie.close (tie.spec (λ c κs. tt) returns)

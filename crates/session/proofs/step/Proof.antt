@@ -40,9 +40,6 @@ sub-apply c = omega arith
 part-apply-start : tie.Need-part-apply-start
 part-apply-start c = omega arith
 
-part-apply-end : tie.Need-part-apply-end
-part-apply-end c = search needs
-
 on-requires : tie.Need-on-requires
 on-requires c κs =
     let a = c .before .before .before .before .before .before .before .before .before .before .before .before .before .args in
@@ -106,7 +103,7 @@ step-spec =
     returns-3
     sub-apply
     part-apply-start
-    part-apply-end
+    (λ c. search needs)
     (λ c κs. tt)
     (λ c. search needs)
     (λ c κs. tt)
