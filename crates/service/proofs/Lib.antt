@@ -1,1 +1,4 @@
-mod Laws
+mod Reading
+mod Parts
+mod Emitting
+pub mod Writing

@@ -1,1 +1,4 @@
 pub mod Packed
+pub mod Parts
+pub mod Emitting
+pub mod Writing

@@ -1,8 +1,8 @@
 -- `yuzuknoll_emit` answers the first part refused, or what emission answers for the values of the three.
 use borrow.Author.Needs.{needs}
-use Rattle.service.proofs.Laws.{key-refused, variant-refused, entry-refused, answered, left}
-use Rattle.service.proofs.yuzuknoll_emit.Statement.{statement}
-use Rattle.service.proofs.yuzuknoll_emit.Tie as tie
+use Rattle.service.proofs.Emitting.{key-refused, variant-refused, entry-refused, answered, left}
+use Rattle.service.proofs.emit.yuzuknoll_emit.Statement.{statement}
+use Rattle.service.proofs.emit.yuzuknoll_emit.Tie as tie
 
 returns : tie.Need-returns
 returns c = key-refused _ _ _ _ (c .before .before .before .read-part .ensures) (c .before .if1 .taken)

@@ -5,9 +5,9 @@ use borrow.Author.Needs.{needs}
 use Rattle.service.specs.Packed.{packed}
 use Rattle.metal.specs.Results.{bufferAfter, textOf}
 use Rattle.metal.specs.declared.Answer.{Answer}
-use Rattle.service.proofs.Laws.{length-small}
-use Rattle.service.proofs.emit_values.Statement.{statement}
-use Rattle.service.proofs.emit_values.Tie as tie
+use Rattle.service.proofs.Emitting.{length-small}
+use Rattle.service.proofs.emit.emit_values.Statement.{statement}
+use Rattle.service.proofs.emit.emit_values.Tie as tie
 
 pack-requires : tie.Need-pack-requires
 pack-requires c κs =

@@ -1,12 +1,12 @@
--- What the definitions of the C interface say in each case of the code.
+-- What the definitions of emission from lent records say in each case of the code.
 use Prim.Native.Nat.{ℕ, _≤_, _<_}
 use mathlib.Core.Path.{_≡_, ap}
 use mathlib.Core.Bool.{Bool, true, false, not, cond}
 use mathlib.Core.List.{List}
 use native.Mathlib.Omega.{arith}
-use borrow.Author.Tests.{eq-eqb, ne-eqb, lt-ltb, le-ltb}
+use borrow.Author.Tests.{lt-ltb, le-ltb}
 use lib.Dec.{ltb}
-use lib.ListN.{length, getD}
+use lib.ListN.{length}
 use Rattle.cascade.specs.declared.Key.{Key}
 use Rattle.metal.specs.Results.{stageFlagsBad, variantFlagsBad, entryGood, emittedOf, textOf, answerOf, bufferAfter}
 use Rattle.metal.specs.declared.Variant.{Variant}
@@ -16,9 +16,9 @@ use Rattle.metal.specs.declared.Refusal.the-variants.{StageFlags, VariantFlags,
 use Rattle.metal.specs.declared.Answer.{Answer}
 use Rattle.metal.specs.declared.Answer.the-variants.{Text, Refused}
 use Rattle.metal.proofs.Length.{at-most}
-use Rattle.records.specs.Reading.{readRecord}
-use Rattle.records.specs.declared.Reading.{Reading}
-use Rattle.service.specs.Packed.{readNumber, partNumber, partOf, partsNumber, packed, emitted, emittedBuffer}
+use Rattle.service.specs.Emitting.{partsNumber, emitted, emittedBuffer}
+use Rattle.service.specs.Packed.{packed}
+use Rattle.service.specs.Parts.{partOf}
 use Rattle.service.specs.declared.Part.{Part}
 
 -- the length that an answer carries
@@ -44,23 +44,6 @@ length-small k v e room m s n p =
     let g = length-picked (stageFlagsBad (k .stages)) (variantFlagsBad v) (not (entryGood e)) (ltb room (length (textOf k v e))) (emittedOf k v e) h in
     let q : lengthIn (answerOf k v e room) ≡ m .length = ap lengthIn p in
     omega arith
-
-module _ (kind size : ℕ) (b : List ℕ) {r : Reading} (p : r ≡ readRecord b) where
-  pub part-empty : {n : ℕ} → n ≡ readNumber (r .answer) → length b ≡ 0 → record { number = n; found = r .found } ≡ partOf kind size b
-  unfolding partNumber
-  part-empty q h = rw (eq-eqb (length b) 0 h, ← p, q)
-
-  pub part-kind : (length b ≡ 0 → ⊥) → (getD b 0 0 ≡ kind → ⊥) → record { number = 2; found = r .found } ≡ partOf kind size b
-  unfolding partNumber
-  part-kind h g = rw (ne-eqb (length b) 0 h, ne-eqb (getD b 0 0) kind g, ← p)
-
-  pub part-size : (length b ≡ 0 → ⊥) → getD b 0 0 ≡ kind → (length b ≡ size → ⊥) → record { number = 1; found = r .found } ≡ partOf kind size b
-  unfolding partNumber
-  part-size h g s = rw (ne-eqb (length b) 0 h, eq-eqb (getD b 0 0) kind g, ne-eqb (length b) size s, ← p)
-
-  pub part-read : {n : ℕ} → n ≡ readNumber (r .answer) → (length b ≡ 0 → ⊥) → getD b 0 0 ≡ kind → length b ≡ size → record { number = n; found = r .found } ≡ partOf kind size b
-  unfolding partNumber
-  part-read q h g s = rw (ne-eqb (length b) 0 h, eq-eqb (getD b 0 0) kind g, eq-eqb (length b) size s, ← p, q)
 
 module _ (k v e out : List ℕ) where
   -- a part is refused
