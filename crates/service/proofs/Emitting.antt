@@ -22,28 +22,24 @@ use Rattle.service.specs.Parts.{partOf}
 use Rattle.service.specs.declared.Part.{Part}
 
 -- the length that an answer carries
-lengthIn : Answer → ℕ
+abbrev pub lengthIn : Answer → ℕ
 lengthIn (Text m) = m .length
 lengthIn (Refused c) = 0
 
 length-picked : (a b c d : Bool) (m : Emitted) → m .length ≤ 16384
     → lengthIn (cond a (Refused StageFlags) (cond b (Refused VariantFlags) (cond c (Refused EntryName) (cond d (Refused TextTooLong) (Text m))))) ≤ 16384
-unfolding lengthIn
 length-picked true b c d m h = omega arith
 length-picked false true c d m h = omega arith
 length-picked false false true d m h = omega arith
 length-picked false false false true m h = omega arith
 length-picked false false false false m h = h
 
--- an accepted length has 24 bits
-pub length-small : (k : Key) (v : Variant) (e : Entry) (room : ℕ) (m : Emitted) → length (k .stages) ≡ 8 → length (e .name) ≡ 32
-    → answerOf k v e room ≡ Text m → m .length < 16777216
-unfolding answerOf lengthIn
-length-small k v e room m s n p =
+-- no answer carries more than the longest text
+pub length-most : (k : Key) (v : Variant) (e : Entry) (room : ℕ) → length (k .stages) ≡ 8 → length (e .name) ≡ 32 → lengthIn (answerOf k v e room) ≤ 16384
+unfolding answerOf
+length-most k v e room s n =
     let h = at-most k v e (omega arith) (omega arith) in
-    let g = length-picked (stageFlagsBad (k .stages)) (variantFlagsBad v) (not (entryGood e)) (ltb room (length (textOf k v e))) (emittedOf k v e) h in
-    let q : lengthIn (answerOf k v e room) ≡ m .length = ap lengthIn p in
-    omega arith
+    length-picked (stageFlagsBad (k .stages)) (variantFlagsBad v) (not (entryGood e)) (ltb room (length (textOf k v e))) (emittedOf k v e) h
 
 module _ (k v e out : List ℕ) where
   -- a part is refused

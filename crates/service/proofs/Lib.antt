@@ -1,4 +1,5 @@
 mod Reading
 mod Parts
 mod Emitting
+mod Applying
 pub mod Writing

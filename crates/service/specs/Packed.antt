@@ -12,6 +12,8 @@ use Rattle.records.specs.declared.ReadAnswer.{ReadAnswer}
 use Rattle.records.specs.declared.ReadAnswer.the-variants as read
 use Rattle.records.specs.declared.WriteAnswer.{WriteAnswer}
 use Rattle.records.specs.declared.WriteAnswer.the-variants as write
+use Rattle.records.specs.declared.ApplyAnswer.{ApplyAnswer}
+use Rattle.records.specs.declared.ApplyAnswer.the-variants as apply
 
 -- a record's kind in bits 8 to 15, and how many bytes it has in bits 16 to 23
 abbrev pub packedRecord : Kind → ℕ → ℕ
@@ -38,3 +40,10 @@ packedText m = 256 * m .mask + 65536 * m .rows + 16777216 * m .lookups + 4294967
 unfoldable pub packed : Answer → ℕ
 packed (answer.Text m) = packedText m
 packed (answer.Refused c) = refusalNumber c
+
+-- The answer to a record that is applied. Its bytes are counted in bits 56 to 63; for an emit record emission's results stand below them, where a
+-- text's length has the bits 40 to 55: none is above 16,384.
+unfoldable pub packedApplied : ApplyAnswer → ℕ
+packedApplied (apply.Replaced n) = 72057594037927936 * n
+packedApplied (apply.Text n m) = packedText m + 72057594037927936 * n
+packedApplied (apply.Refused c) = numberOf c

@@ -1,4 +1,5 @@
 //! The C interface: records in lent bytes read, written, emitted from and applied, each answer packed into a number. See include/yuzuknoll.h.
+mod apply;
 mod emit;
 mod read;
 mod write;
@@ -60,9 +61,11 @@ fn read_part(kind: u8, size: usize, bytes: &[u8]) -> Part
     }
 }
 
+// The results of an emission, in 56 bits.
 fn pack(m: Emitted) -> u64
-    requires { ⌜ m .length < 16777216 ⌝ }
-    ensures { λ r. ⌜ r ≡ packedText m ⌝ }
+    requires { ⌜ m .length < 65536 ⌝ }
+    ensures packed { λ r. ⌜ r ≡ packedText m ⌝ }
+    ensures small { λ r. ⌜ r < 72057594037927936 ⌝ }
 {
     let mask = m.mask as u64;
     let rows = m.rows as u64;
