@@ -1,11 +1,13 @@
 -- What the definitions of applying a record say in each case of the code.
-use Prim.Native.Nat.{ℕ, _≤_, _<_}
+use Prim.Native.Nat.{ℕ, _+_, _*_, _≤_, _<_}
 use mathlib.Core.Path.{_≡_, refl, sym, ap, _∙_}
 use mathlib.Core.Bool.{Bool, true, false, cond}
 use mathlib.Core.List.{List}
 use native.Mathlib.Omega.{arith}
 use borrow.Author.Tests.{eq-eqb, ne-eqb}
 use lib.Dec.{eqb}
+use mir.Syntax.{w64}
+use mir.Val.{Fits}
 use lib.ListN.{length, take, getD}
 use lib.Seq.{sets}
 use Rattle.metal.specs.Results.{answerOf}
@@ -105,11 +107,20 @@ module _ (h : Held) (b out : List ℕ) {x : Applied} (p : x ≡ applied h b (len
   is : applyAnswer h b (length out) ≡ a
   is = sym (ap (λ (y : Applied). y .answer) p) ∙ t
 
-  pub counted : Bytes b → tookOf a ≤ 59
+  counted : Bytes b → tookOf a ≤ 59
   counted w = rw is at (read-took (readRecord b .answer) (readRecord b .found) h (length out) 59 (λ n e. took-small b w refl e))
 
-  pub text-short : length (h .key .stages) ≡ 8 → length (h .entry .name) ≡ 32 → lengthOf a ≤ 16384
-  text-short s n = rw is at (read-length (readRecord b .answer) (readRecord b .found) h (length out) (length-most (h .key) (h .variant) (h .entry) (length out) s n))
+  pub count-fits : Bytes b → Fits w64 (72057594037927936 * tookOf a)
+  count-fits w = let c = counted w in record { fits = omega arith }
+
+  pub sum-fits : {m : ℕ} → m < 72057594037927936 → Bytes b → Fits w64 (m + 72057594037927936 * tookOf a)
+  sum-fits l w = let c = counted w in record { fits = omega arith }
+
+  text-most : length (h .key .stages) ≡ 8 → length (h .entry .name) ≡ 32 → lengthOf a ≤ 16384
+  text-most s n = rw is at (read-length (readRecord b .answer) (readRecord b .found) h (length out) (length-most (h .key) (h .variant) (h .entry) (length out) s n))
+
+  pub text-short : length (h .key .stages) ≡ 8 → length (h .entry .name) ≡ 32 → lengthOf a < 65536
+  text-short s n = let l = text-most s n in omega arith
 
   pub outcome : {m k : ℕ} {out′ : List ℕ} → m ≡ packedApplied a → k ≡ replacedBytes a → out′ ≡ textAfter (x .answer) h out →
       Outcome-of h b out m k out′
@@ -137,3 +148,7 @@ module _ (held b out : List ℕ) where
     answered g l =
         let a : answerTo held b (length out) ≡ applyAnswer h b (length out) = rw (eq-eqb (length held) 113 g, p) in
         (e .0 ∙ ap packedApplied (sym a), (l ∙ rw (e .1 .0, a), e .1 .1 ∙ rw (a, p)))
+
+    -- nothing is held anew
+    pub answered-none : length held ≡ 113 → o .replaced ≤ 0 → Answered (o .number) held out′
+    answered-none g l = let n : o .replaced ≡ 0 = omega arith in answered g (rw n refl)

@@ -1,6 +1,6 @@
 -- What the definitions of emission from lent records say in each case of the code.
 use Prim.Native.Nat.{ℕ, _≤_, _<_}
-use mathlib.Core.Path.{_≡_, ap}
+use mathlib.Core.Path.{_≡_, sym, ap, _∙_}
 use mathlib.Core.Bool.{Bool, true, false, not, cond}
 use mathlib.Core.List.{List}
 use native.Mathlib.Omega.{arith}
@@ -41,6 +41,15 @@ length-most k v e room s n =
     let h = at-most k v e (omega arith) (omega arith) in
     length-picked (stageFlagsBad (k .stages)) (variantFlagsBad v) (not (entryGood e)) (ltb room (length (textOf k v e))) (emittedOf k v e) h
 
+-- what emission from values answers and leaves
+module _ (k : Key) (v : Variant) (e : Entry) (out : List ℕ) {x : Answer} (p : x ≡ answerOf k v e (length out)) {a : Answer} (t : x ≡ a) where
+  pub text-short : length (k .stages) ≡ 8 → length (e .name) ≡ 32 → lengthIn a < 65536
+  text-short s n = let g : answerOf k v e (length out) ≡ a = sym p ∙ t in omega (arith, rw g at (length-most k v e (length out) s n))
+
+  pub values-answered : {n : ℕ} {out′ : List ℕ} → n ≡ packed a → out′ ≡ bufferAfter x (textOf k v e) out →
+      (n ≡ packed (answerOf k v e (length out))) × (out′ ≡ bufferAfter (answerOf k v e (length out)) (textOf k v e) out)
+  values-answered q l = (q ∙ ap packed (sym t ∙ p), l ∙ ap (λ (y : Answer). bufferAfter y (textOf k v e) out) p)
+
 module _ (k v e out : List ℕ) where
   -- a part is refused
   refused : {n : ℕ} → partsNumber k v e ≡ n → 0 < n → n ≡ emitted k v e (length out)
@@ -80,12 +89,10 @@ module _ (k v e out : List ℕ) where
         unfolding partsNumber
         none-refused l = rw (← ap (λ (x : Part). x .number) p, le-ltb 0 (a .number) i, ← ap (λ (x : Part). x .number) q, le-ltb 0 (b .number) j, ← ap (λ (x : Part). x .number) r, le-ltb 0 (c .number) l)
 
-        pub answered : {n : ℕ} → c .number ≤ 0 → n ≡ packed (answerOf (a .found .key) (b .found .variant) (c .found .entry) (length out)) → n ≡ emitted k v e (length out)
-        unfolding emitted
-        answered l s = rw (none-refused l, ← ap (λ (x : Part). x .found .key) p, ← ap (λ (x : Part). x .found .variant) q, ← ap (λ (x : Part). x .found .entry) r) s
-
-        pub left : {then : List ℕ} → c .number ≤ 0
-            → then ≡ bufferAfter (answerOf (a .found .key) (b .found .variant) (c .found .entry) (length out)) (textOf (a .found .key) (b .found .variant) (c .found .entry)) out
-            → then ≡ emittedBuffer k v e out
-        unfolding emittedBuffer
-        left l s = rw (none-refused l, ← ap (λ (x : Part). x .found .key) p, ← ap (λ (x : Part). x .found .variant) q, ← ap (λ (x : Part). x .found .entry) r) s
+        pub answered : {n : ℕ} {out′ : List ℕ} → c .number ≤ 0
+            → (n ≡ packed (answerOf (a .found .key) (b .found .variant) (c .found .entry) (length out)))
+            × (out′ ≡ bufferAfter (answerOf (a .found .key) (b .found .variant) (c .found .entry) (length out)) (textOf (a .found .key) (b .found .variant) (c .found .entry)) out)
+            → (n ≡ emitted k v e (length out)) × (out′ ≡ emittedBuffer k v e out)
+        unfolding emitted emittedBuffer
+        answered l s =
+            rw (none-refused l, ← ap (λ (x : Part). x .found .key) p, ← ap (λ (x : Part). x .found .variant) q, ← ap (λ (x : Part). x .found .entry) r) s

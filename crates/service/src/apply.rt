@@ -1,10 +1,10 @@
 //! A record applied to the held key, variant and entry, whose records the caller keeps.
+use crate::number_of;
 use crate::pack;
 use crate::read_part;
 use records::ApplyAnswer;
 use records::Held;
 use records::apply::apply;
-use records::number;
 use text::put;
 ghost use Prim.Native.Nat.{_<_, _≤_};
 ghost use mathlib.Core.Path.{_≡_};
@@ -59,7 +59,7 @@ fn apply_values(held: Held, bytes: &[u8], text: &mut [u8]) -> Outcome
             replaced: 0,
         },
         ApplyAnswer::Refused(cause) => Outcome {
-            number: number(cause) as u64,
+            number: number_of(cause),
             replaced: 0,
         },
     }

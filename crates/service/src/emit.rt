@@ -45,15 +45,15 @@ pub extern "C" fn yuzuknoll_emit(key: &[u8], variant: &[u8], entry: &[u8], out: 
 {
     let k = read_part(1, 59, key);
     if 0 < k.number {
-        return k.number as u64;
+        return k.number;
     }
     let v = read_part(2, 20, variant);
     if 0 < v.number {
-        return v.number as u64;
+        return v.number;
     }
     let e = read_part(3, 34, entry);
     if 0 < e.number {
-        return e.number as u64;
+        return e.number;
     }
     let key_found = k.found.key;
     let variant_found = v.found.variant;

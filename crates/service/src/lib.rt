@@ -7,25 +7,33 @@ mod write;
 use emission::Emitted;
 use records::ReadAnswer;
 use records::Record;
+use records::Refusal;
 use records::number;
 ghost use Prim.Native.Nat.{_<_};
 ghost use mathlib.Core.Path.{_≡_};
+ghost use Rattle.records.specs.Refusals.{numberOf};
 ghost use Rattle.service.specs.Packed.{packedText};
 ghost use Rattle.service.specs.Parts.{partOf, readNumber};
 
 // What was read of a lent record: the number of its refusal, 0 for none, and the record.
 pub struct Part {
-    pub number: u8,
+    pub number: u64,
     pub found: Record,
 }
 
+fn number_of(cause: Refusal) -> u64
+    ensures { λ r. ⌜ r ≡ numberOf cause ⌝ }
+{
+    number(cause) as u64
+}
+
 // The number of the reader's refusal, 0 for none.
-fn read_number(answer: ReadAnswer) -> u8
+fn read_number(answer: ReadAnswer) -> u64
     ensures { λ r. ⌜ r ≡ readNumber answer ⌝ }
 {
     match answer {
         ReadAnswer::Took(n) => 0,
-        ReadAnswer::Refused(cause) => number(cause),
+        ReadAnswer::Refused(cause) => number_of(cause),
     }
 }
 

@@ -1,7 +1,7 @@
 //! The record at the front of lent bytes.
+use crate::number_of;
 use records::Kind;
 use records::ReadAnswer;
-use records::number;
 use records::reader::read;
 ghost use Prim.Native.Nat.{_≤_};
 ghost use mathlib.Core.Path.{_≡_};
@@ -42,6 +42,6 @@ pub extern "C" fn yuzuknoll_read(bytes: &[u8]) -> u64
     let kind = found.kind;
     match answer {
         ReadAnswer::Took(n) => pack_record(kind, n),
-        ReadAnswer::Refused(cause) => number(cause) as u64,
+        ReadAnswer::Refused(cause) => number_of(cause),
     }
 }

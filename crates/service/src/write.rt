@@ -1,8 +1,8 @@
 //! A record written again, by value, to the front of a lent buffer.
+use crate::number_of;
 use crate::read::pack_record;
 use records::ReadAnswer;
 use records::WriteAnswer;
-use records::number;
 use records::reader::read;
 use records::writer::write;
 ghost use mathlib.Core.Path.{_≡_};
@@ -20,12 +20,12 @@ pub extern "C" fn yuzuknoll_write(record: &[u8], out: &mut [u8]) -> u64
     let kind = found.kind;
     let answer = reading.answer;
     match answer {
-        ReadAnswer::Refused(cause) => number(cause) as u64,
+        ReadAnswer::Refused(cause) => number_of(cause),
         ReadAnswer::Took(_) => {
             let wrote = write(found, out);
             match wrote {
                 WriteAnswer::Wrote(n) => pack_record(kind, n),
-                WriteAnswer::Refused(cause) => number(cause) as u64,
+                WriteAnswer::Refused(cause) => number_of(cause),
             }
         }
     }

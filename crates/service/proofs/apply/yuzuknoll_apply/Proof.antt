@@ -1,9 +1,6 @@
 -- `yuzuknoll_apply` answers 1 for held bytes of another length, and otherwise what applying to their values answers, and holds the record's bytes.
-use mathlib.Core.Path.{_≡_, refl}
-use native.Mathlib.Omega.{arith}
-use borrow.Author.Needs.{needs}
-use lib.ListN.{length}
-use Rattle.service.proofs.Applying.{wrong-length, replaced-within, answered}
+use mathlib.Core.Path.{refl}
+use Rattle.service.proofs.Applying.{wrong-length, replaced-within, answered, answered-none}
 use Rattle.service.proofs.apply.yuzuknoll_apply.Statement.{statement}
 use Rattle.service.proofs.apply.yuzuknoll_apply.Tie as tie
 
@@ -32,20 +29,19 @@ returns-3 c =
     let a = c .before .before .before in
     let i = a .before .before .before .before in
     let s = i .before .before .before .before in
-    let n : a .apply-values .result .replaced ≡ 0 = omega (arith, c .if2 .left) in
-    answered (s .args .held .now) (s .args .bytes .now) (s .args .text .now) (a .before .before .held-of .ensures) (a .apply-values .ensures) (i .if1 .left) (rw n refl)
+    answered-none (s .args .held .now) (s .args .bytes .now) (s .args .text .now) (a .before .before .held-of .ensures) (a .apply-values .ensures) (i .if1 .left) (c .if2 .left)
 
 pub yuzuknoll-apply-spec : {M : Type 1} → statement M
 yuzuknoll-apply-spec =
     tie.close
     (tie.spec
     returns
-    (λ c κs. search needs)
+    (λ c κs. c .before .if1 .left)
     (λ c κs. tt)
     hold-requires
-    (λ c. search needs)
-    (λ c. search needs)
+    (λ c. c .before .held .given)
+    (λ c. c .before .before .before .before .before .before .text .given)
     returns-2
-    (λ c. search needs)
-    (λ c. search needs)
+    (λ c. refl)
+    (λ c. c .before .before .text .given)
     returns-3)

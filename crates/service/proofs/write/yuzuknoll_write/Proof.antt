@@ -1,5 +1,4 @@
 -- `yuzuknoll_write` answers the reader's refusal, or what the writer answers for the record that was read.
-use borrow.Author.Needs.{needs}
 use Rattle.service.proofs.Writing.{write-unread, wrote-small, write-answered}
 use Rattle.service.proofs.write.yuzuknoll_write.Statement.{statement}
 use Rattle.service.proofs.write.yuzuknoll_write.Tie as tie
@@ -11,7 +10,7 @@ pack-record-requires c κs =
     wrote-small _ (r .before .before .before .args .out .now) (r .read .ensures) (w .before .before .enum-told .given .1) (w .write .ensures) (c .before .wrote .given .1)
 
 returns : tie.Need-returns
-returns c = write-unread _ _ (c .before .before .before .before .before .read .ensures) (c .before .before .answer .given .1) (c .number .ensures)
+returns c = write-unread _ _ (c .before .before .before .before .before .read .ensures) (c .before .before .answer .given .1) (c .number-of .ensures)
 
 returns-2 : tie.Need-returns-2
 returns-2 c =
@@ -23,25 +22,23 @@ returns-3 : tie.Need-returns-3
 returns-3 c =
     let w = c .before .before .before .before .before .before in
     let r = w .before .before .before .before .before in
-    write-answered _ (r .before .before .before .args .out .now) (r .read .ensures) (w .before .before .enum-told .given .1) (w .write .ensures) (rw (c .before .before .wrote2 .given .1) (c .number2 .ensures))
+    write-answered _ (r .before .before .before .args .out .now) (r .read .ensures) (w .before .before .enum-told .given .1) (w .write .ensures) (rw (c .before .before .wrote2 .given .1) (c .number-of2 .ensures))
 
 pub yuzuknoll-write-spec : {M : Type 1} → statement M
 yuzuknoll-write-spec =
     tie.close
     (tie.spec
     (λ c κs. tt)
-    (λ c. search needs)
+    (λ c. c .match .keys1)
     (λ c κs. tt)
-    (λ c. search needs)
-    (λ c. search needs)
+    (λ c. c .match .keys2)
     (λ c κs. tt)
-    (λ c. search needs)
+    (λ c. c .match2 .keys1)
     pack-record-requires
-    (λ c. search needs)
+    (λ c. c .match2 .keys2)
     (λ c κs. tt)
-    (λ c. search needs)
     returns
-    (λ c. search needs)
+    (λ c. c .before .before .before .before .before .out .given)
     returns-2
-    (λ c. search needs)
+    (λ c. c .before .before .before .before .before .out .given)
     returns-3)
