@@ -1,1 +1,5 @@
-mod Laws
+mod Reading
+mod Parts
+mod Emitting
+mod Applying
+pub mod Writing

@@ -1,1 +1,5 @@
 pub mod Packed
+pub mod Parts
+pub mod Emitting
+pub mod Writing
+pub mod Applying

@@ -1,67 +1,49 @@
--- What the C interface answers, and what it leaves in the lent buffer.
+-- How the C interface packs an answer into a number: 01's number of the refusal in bits 0 to 7, and the other bits 0 with a refusal.
 use Prim.Native.Nat.{ℕ, _+_, _*_}
-use mathlib.Core.Bool.{cond}
-use mathlib.Core.List.{List, []}
-use lib.Dec.{eqb, ltb}
-use lib.ListN.{length, getD}
-use Rattle.cascade.specs.declared.Key.{Key}
-use Rattle.metal.specs.Results.{answerOf, bufferAfter, refusalNumber, textOf}
-use Rattle.metal.specs.declared.Variant.{Variant}
-use Rattle.metal.specs.declared.Entry.{Entry}
+use Rattle.metal.specs.Results.{refusalNumber}
 use Rattle.metal.specs.declared.Emitted.{Emitted}
 use Rattle.metal.specs.declared.Answer.{Answer}
 use Rattle.metal.specs.declared.Answer.the-variants as answer
-use Rattle.records.specs.Reading.{readRecord}
+use Rattle.records.specs.Bodies.{kindByte}
 use Rattle.records.specs.Refusals.{numberOf}
+use Rattle.records.specs.declared.Kind.{Kind}
+use Rattle.records.specs.declared.Reading.{Reading}
 use Rattle.records.specs.declared.ReadAnswer.{ReadAnswer}
-use Rattle.records.specs.declared.ReadAnswer.the-variants.{Took, Refused}
-use Rattle.service.specs.declared.Part.{Part}
+use Rattle.records.specs.declared.ReadAnswer.the-variants as read
+use Rattle.records.specs.declared.WriteAnswer.{WriteAnswer}
+use Rattle.records.specs.declared.WriteAnswer.the-variants as write
+use Rattle.records.specs.declared.ApplyAnswer.{ApplyAnswer}
+use Rattle.records.specs.declared.ApplyAnswer.the-variants as apply
 
--- 01's number of the reader's refusal, 0 for none
-abbrev pub readNumber : ReadAnswer → ℕ
-readNumber (Took n) = 0
-readNumber (Refused c) = numberOf c
+-- a record's kind in bits 8 to 15, and how many bytes it has in bits 16 to 23
+abbrev pub packedRecord : Kind → ℕ → ℕ
+packedRecord k n = 256 * kindByte k + 65536 * n
 
--- The number of the refusal of a part that is to be one record of a kind and a size: the reader's for no byte; 2 for another kind; 1 for another
--- size; then the reader's. 01: "Kind comes before length, length before the body's causes".
-unfoldable pub partNumber : ℕ → ℕ → List ℕ → ℕ
-partNumber kind size b =
-    cond (eqb (length b) 0) (readNumber (readRecord b .answer))
-    (cond (eqb (getD b 0 0) kind) (cond (eqb (length b) size) (readNumber (readRecord b .answer)) 1) 2)
+-- the answer of the reader of a record
+abbrev pub packedRead : ReadAnswer → Kind → ℕ
+packedRead (read.Took n) k = packedRecord k n
+packedRead (read.Refused c) k = numberOf c
 
-abbrev pub partOf : ℕ → ℕ → List ℕ → Part
-partOf kind size b = record { number = partNumber kind size b; found = readRecord b .found }
+abbrev pub packedReading : Reading → ℕ
+packedReading r = packedRead (r .answer) (r .found .kind)
 
--- 01's kind bytes 1, 2 and 3, and bodies of 58, 19 and 33 bytes: the first part refused, in the order key, variant, entry, or 0
-unfoldable pub partsNumber : List ℕ → List ℕ → List ℕ → ℕ
-partsNumber k v e =
-    cond (ltb 0 (partNumber 1 59 k)) (partNumber 1 59 k)
-    (cond (ltb 0 (partNumber 2 20 v)) (partNumber 2 20 v) (cond (ltb 0 (partNumber 3 34 e)) (partNumber 3 34 e) 0))
+-- and of the writer
+abbrev pub packedWritten : WriteAnswer → Kind → ℕ
+packedWritten (write.Wrote n) k = packedRecord k n
+packedWritten (write.Refused c) k = numberOf c
 
--- bits 0 to 7 are 0; mask, rows, lookups and warning have 8 bits each, and the length those from bit 40 on
+-- mask, rows, lookups and warning have 8 bits each, from bit 8 on, and the length those from bit 40 on
 abbrev pub packedText : Emitted → ℕ
 packedText m = 256 * m .mask + 65536 * m .rows + 16777216 * m .lookups + 4294967296 * m .warning + 1099511627776 * m .length
 
+-- emission's answer
 unfoldable pub packed : Answer → ℕ
 packed (answer.Text m) = packedText m
 packed (answer.Refused c) = refusalNumber c
 
--- the values of the parts
-abbrev pub keyIn : List ℕ → Key
-keyIn b = readRecord b .found .key
-
-abbrev pub variantIn : List ℕ → Variant
-variantIn b = readRecord b .found .variant
-
-abbrev pub entryIn : List ℕ → Entry
-entryIn b = readRecord b .found .entry
-
--- what is answered: a part's refusal, or emission's answer
-unfoldable pub emitted : List ℕ → List ℕ → List ℕ → ℕ → ℕ
-emitted k v e room = cond (ltb 0 (partsNumber k v e)) (partsNumber k v e) (packed (answerOf (keyIn k) (variantIn v) (entryIn e) room))
-
--- the buffer then: as it was behind a part's refusal, or as emission leaves it
-unfoldable pub emittedBuffer : List ℕ → List ℕ → List ℕ → List ℕ → List ℕ
-emittedBuffer k v e out =
-    cond (ltb 0 (partsNumber k v e)) out
-    (bufferAfter (answerOf (keyIn k) (variantIn v) (entryIn e) (length out)) (textOf (keyIn k) (variantIn v) (entryIn e)) out)
+-- The answer to a record that is applied. Its bytes are counted in bits 56 to 63; for an emit record emission's results stand below them, where a
+-- text's length has the bits 40 to 55: none is above 16,384.
+unfoldable pub packedApplied : ApplyAnswer → ℕ
+packedApplied (apply.Replaced n) = 72057594037927936 * n
+packedApplied (apply.Text n m) = packedText m + 72057594037927936 * n
+packedApplied (apply.Refused c) = numberOf c

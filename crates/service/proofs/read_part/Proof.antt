@@ -1,6 +1,6 @@
 -- `read_part` answers what `partOf` picks by the tests of its branches.
 use borrow.Author.Needs.{needs}
-use Rattle.service.proofs.Laws.{part-empty, part-kind, part-size, part-read}
+use Rattle.service.proofs.Parts.{part-empty, part-kind, part-size, part-read}
 use Rattle.service.proofs.read_part.Statement.{statement}
 use Rattle.service.proofs.read_part.Tie as tie
 

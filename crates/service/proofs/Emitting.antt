@@ -1,12 +1,12 @@
--- What the definitions of the C interface say in each case of the code.
+-- What the definitions of emission from lent records say in each case of the code.
 use Prim.Native.Nat.{ℕ, _≤_, _<_}
-use mathlib.Core.Path.{_≡_, ap}
+use mathlib.Core.Path.{_≡_, sym, ap, _∙_}
 use mathlib.Core.Bool.{Bool, true, false, not, cond}
 use mathlib.Core.List.{List}
 use native.Mathlib.Omega.{arith}
-use borrow.Author.Tests.{eq-eqb, ne-eqb, lt-ltb, le-ltb}
+use borrow.Author.Tests.{lt-ltb, le-ltb}
 use lib.Dec.{ltb}
-use lib.ListN.{length, getD}
+use lib.ListN.{length}
 use Rattle.cascade.specs.declared.Key.{Key}
 use Rattle.metal.specs.Results.{stageFlagsBad, variantFlagsBad, entryGood, emittedOf, textOf, answerOf, bufferAfter}
 use Rattle.metal.specs.declared.Variant.{Variant}
@@ -16,51 +16,39 @@ use Rattle.metal.specs.declared.Refusal.the-variants.{StageFlags, VariantFlags,
 use Rattle.metal.specs.declared.Answer.{Answer}
 use Rattle.metal.specs.declared.Answer.the-variants.{Text, Refused}
 use Rattle.metal.proofs.Length.{at-most}
-use Rattle.records.specs.Reading.{readRecord}
-use Rattle.records.specs.declared.Reading.{Reading}
-use Rattle.service.specs.Packed.{readNumber, partNumber, partOf, partsNumber, packed, emitted, emittedBuffer}
+use Rattle.service.specs.Emitting.{partsNumber, emitted, emittedBuffer}
+use Rattle.service.specs.Packed.{packed}
+use Rattle.service.specs.Parts.{partOf}
 use Rattle.service.specs.declared.Part.{Part}
 
 -- the length that an answer carries
-lengthIn : Answer → ℕ
+abbrev pub lengthIn : Answer → ℕ
 lengthIn (Text m) = m .length
 lengthIn (Refused c) = 0
 
 length-picked : (a b c d : Bool) (m : Emitted) → m .length ≤ 16384
     → lengthIn (cond a (Refused StageFlags) (cond b (Refused VariantFlags) (cond c (Refused EntryName) (cond d (Refused TextTooLong) (Text m))))) ≤ 16384
-unfolding lengthIn
 length-picked true b c d m h = omega arith
 length-picked false true c d m h = omega arith
 length-picked false false true d m h = omega arith
 length-picked false false false true m h = omega arith
 length-picked false false false false m h = h
 
--- an accepted length has 24 bits
-pub length-small : (k : Key) (v : Variant) (e : Entry) (room : ℕ) (m : Emitted) → length (k .stages) ≡ 8 → length (e .name) ≡ 32
-    → answerOf k v e room ≡ Text m → m .length < 16777216
-unfolding answerOf lengthIn
-length-small k v e room m s n p =
+-- no answer carries more than the longest text
+pub length-most : (k : Key) (v : Variant) (e : Entry) (room : ℕ) → length (k .stages) ≡ 8 → length (e .name) ≡ 32 → lengthIn (answerOf k v e room) ≤ 16384
+unfolding answerOf
+length-most k v e room s n =
     let h = at-most k v e (omega arith) (omega arith) in
-    let g = length-picked (stageFlagsBad (k .stages)) (variantFlagsBad v) (not (entryGood e)) (ltb room (length (textOf k v e))) (emittedOf k v e) h in
-    let q : lengthIn (answerOf k v e room) ≡ m .length = ap lengthIn p in
-    omega arith
+    length-picked (stageFlagsBad (k .stages)) (variantFlagsBad v) (not (entryGood e)) (ltb room (length (textOf k v e))) (emittedOf k v e) h
 
-module _ (kind size : ℕ) (b : List ℕ) {r : Reading} (p : r ≡ readRecord b) where
-  pub part-empty : {n : ℕ} → n ≡ readNumber (r .answer) → length b ≡ 0 → record { number = n; found = r .found } ≡ partOf kind size b
-  unfolding partNumber
-  part-empty q h = rw (eq-eqb (length b) 0 h, ← p, q)
+-- what emission from values answers and leaves
+module _ (k : Key) (v : Variant) (e : Entry) (out : List ℕ) {x : Answer} (p : x ≡ answerOf k v e (length out)) {a : Answer} (t : x ≡ a) where
+  pub text-short : length (k .stages) ≡ 8 → length (e .name) ≡ 32 → lengthIn a < 65536
+  text-short s n = let g : answerOf k v e (length out) ≡ a = sym p ∙ t in omega (arith, rw g at (length-most k v e (length out) s n))
 
-  pub part-kind : (length b ≡ 0 → ⊥) → (getD b 0 0 ≡ kind → ⊥) → record { number = 2; found = r .found } ≡ partOf kind size b
-  unfolding partNumber
-  part-kind h g = rw (ne-eqb (length b) 0 h, ne-eqb (getD b 0 0) kind g, ← p)
-
-  pub part-size : (length b ≡ 0 → ⊥) → getD b 0 0 ≡ kind → (length b ≡ size → ⊥) → record { number = 1; found = r .found } ≡ partOf kind size b
-  unfolding partNumber
-  part-size h g s = rw (ne-eqb (length b) 0 h, eq-eqb (getD b 0 0) kind g, ne-eqb (length b) size s, ← p)
-
-  pub part-read : {n : ℕ} → n ≡ readNumber (r .answer) → (length b ≡ 0 → ⊥) → getD b 0 0 ≡ kind → length b ≡ size → record { number = n; found = r .found } ≡ partOf kind size b
-  unfolding partNumber
-  part-read q h g s = rw (ne-eqb (length b) 0 h, eq-eqb (getD b 0 0) kind g, eq-eqb (length b) size s, ← p, q)
+  pub values-answered : {n : ℕ} {out′ : List ℕ} → n ≡ packed a → out′ ≡ bufferAfter x (textOf k v e) out →
+      (n ≡ packed (answerOf k v e (length out))) × (out′ ≡ bufferAfter (answerOf k v e (length out)) (textOf k v e) out)
+  values-answered q l = (q ∙ ap packed (sym t ∙ p), l ∙ ap (λ (y : Answer). bufferAfter y (textOf k v e) out) p)
 
 module _ (k v e out : List ℕ) where
   -- a part is refused
@@ -101,12 +89,10 @@ module _ (k v e out : List ℕ) where
         unfolding partsNumber
         none-refused l = rw (← ap (λ (x : Part). x .number) p, le-ltb 0 (a .number) i, ← ap (λ (x : Part). x .number) q, le-ltb 0 (b .number) j, ← ap (λ (x : Part). x .number) r, le-ltb 0 (c .number) l)
 
-        pub answered : {n : ℕ} → c .number ≤ 0 → n ≡ packed (answerOf (a .found .key) (b .found .variant) (c .found .entry) (length out)) → n ≡ emitted k v e (length out)
-        unfolding emitted
-        answered l s = rw (none-refused l, ← ap (λ (x : Part). x .found .key) p, ← ap (λ (x : Part). x .found .variant) q, ← ap (λ (x : Part). x .found .entry) r) s
-
-        pub left : {then : List ℕ} → c .number ≤ 0
-            → then ≡ bufferAfter (answerOf (a .found .key) (b .found .variant) (c .found .entry) (length out)) (textOf (a .found .key) (b .found .variant) (c .found .entry)) out
-            → then ≡ emittedBuffer k v e out
-        unfolding emittedBuffer
-        left l s = rw (none-refused l, ← ap (λ (x : Part). x .found .key) p, ← ap (λ (x : Part). x .found .variant) q, ← ap (λ (x : Part). x .found .entry) r) s
+        pub answered : {n : ℕ} {out′ : List ℕ} → c .number ≤ 0
+            → (n ≡ packed (answerOf (a .found .key) (b .found .variant) (c .found .entry) (length out)))
+            × (out′ ≡ bufferAfter (answerOf (a .found .key) (b .found .variant) (c .found .entry) (length out)) (textOf (a .found .key) (b .found .variant) (c .found .entry)) out)
+            → (n ≡ emitted k v e (length out)) × (out′ ≡ emittedBuffer k v e out)
+        unfolding emitted emittedBuffer
+        answered l s =
+            rw (none-refused l, ← ap (λ (x : Part). x .found .key) p, ← ap (λ (x : Part). x .found .variant) q, ← ap (λ (x : Part). x .found .entry) r) s

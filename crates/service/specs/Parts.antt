@@ -1,0 +1,49 @@
+-- Lent parts, each of which is to be one record.
+use Prim.Native.Nat.{ℕ}
+use mathlib.Core.Bool.{cond}
+use mathlib.Core.List.{List}
+use lib.Dec.{eqb}
+use lib.ListN.{length, getD}
+use Rattle.cascade.specs.declared.Key.{Key}
+use Rattle.metal.specs.declared.Variant.{Variant}
+use Rattle.metal.specs.declared.Entry.{Entry}
+use Rattle.records.specs.Reading.{readRecord}
+use Rattle.records.specs.Refusals.{numberOf}
+use Rattle.records.specs.declared.ReadAnswer.{ReadAnswer}
+use Rattle.records.specs.declared.ReadAnswer.the-variants.{Took, Refused}
+use Rattle.service.specs.declared.Part.{Part}
+
+-- 01's number of the reader's refusal, 0 for none
+abbrev pub readNumber : ReadAnswer → ℕ
+readNumber (Took n) = 0
+readNumber (Refused c) = numberOf c
+
+-- The number of the refusal of a part that is to be one record of a kind and a size: the reader's for no byte; 2 for another kind; 1 for another
+-- size; then the reader's. 01: "Kind comes before length, length before the body's causes".
+unfoldable pub partNumber : ℕ → ℕ → List ℕ → ℕ
+partNumber kind size b =
+    cond (eqb (length b) 0) (readNumber (readRecord b .answer))
+    (cond (eqb (getD b 0 0) kind) (cond (eqb (length b) size) (readNumber (readRecord b .answer)) 1) 2)
+
+abbrev pub partOf : ℕ → ℕ → List ℕ → Part
+partOf kind size b = record { number = partNumber kind size b; found = readRecord b .found }
+
+-- 01's kind bytes 1, 2 and 3, and bodies of 58, 19 and 33 bytes
+abbrev pub keyNumber : List ℕ → ℕ
+keyNumber b = partNumber 1 59 b
+
+abbrev pub variantNumber : List ℕ → ℕ
+variantNumber b = partNumber 2 20 b
+
+abbrev pub entryNumber : List ℕ → ℕ
+entryNumber b = partNumber 3 34 b
+
+-- the values of the parts
+abbrev pub keyIn : List ℕ → Key
+keyIn b = readRecord b .found .key
+
+abbrev pub variantIn : List ℕ → Variant
+variantIn b = readRecord b .found .variant
+
+abbrev pub entryIn : List ℕ → Entry
+entryIn b = readRecord b .found .entry

@@ -1,0 +1,62 @@
+//! Emission from the records of a key, a variant and an entry.
+use crate::pack;
+use crate::read_part;
+use emission::Answer;
+use emission::Refusal;
+use emission::emit;
+use records::Entry;
+use records::Key;
+use records::Variant;
+ghost use mathlib.Core.Path.{_≡_};
+ghost use lib.ListN.{length};
+ghost use Rattle.metal.specs.Results.{answerOf, bufferAfter, refusalNumber, textOf};
+ghost use Rattle.service.specs.Emitting.{emitted, emittedBuffer};
+ghost use Rattle.service.specs.Packed.{packed};
+
+// 01's number of emission's refusal.
+fn refusal_number(refusal: Refusal) -> u64
+    ensures { λ r. ⌜ r ≡ refusalNumber refusal ⌝ }
+{
+    match refusal {
+        Refusal::StageFlags => 3,
+        Refusal::VariantFlags => 5,
+        Refusal::EntryName => 6,
+        Refusal::TextTooLong => 8,
+    }
+}
+
+// Emission from values, its answer packed.
+fn emit_values(key: Key, variant: Variant, entry: Entry, out: &mut [u8]) -> u64
+    ensures answer { λ r. ⌜ r ≡ packed (answerOf key variant entry (length (now (out .entry)))) ⌝ }
+    ensures buffer { λ r. ⌜ now (out .exit) ≡ bufferAfter (answerOf key variant entry (length (now (out .entry)))) (textOf key variant entry) (now (out .entry)) ⌝ }
+{
+    let answer = emit(key, variant, entry, out);
+    match answer {
+        Answer::Text(m) => pack(m),
+        Answer::Refused(cause) => refusal_number(cause),
+    }
+}
+
+// Writes the text of three lent records to the front of out; bytes behind it stay. A refusal leaves out as it was.
+#[no_mangle]
+pub extern "C" fn yuzuknoll_emit(key: &[u8], variant: &[u8], entry: &[u8], out: &mut [u8]) -> u64
+    ensures answer { λ r. ⌜ r ≡ emitted (now (key .entry)) (now (variant .entry)) (now (entry .entry)) (length (now (out .entry))) ⌝ }
+    ensures buffer { λ r. ⌜ now (out .exit) ≡ emittedBuffer (now (key .entry)) (now (variant .entry)) (now (entry .entry)) (now (out .entry)) ⌝ }
+{
+    let k = read_part(1, 59, key);
+    if 0 < k.number {
+        return k.number;
+    }
+    let v = read_part(2, 20, variant);
+    if 0 < v.number {
+        return v.number;
+    }
+    let e = read_part(3, 34, entry);
+    if 0 < e.number {
+        return e.number;
+    }
+    let key_found = k.found.key;
+    let variant_found = v.found.variant;
+    let entry_found = e.found.entry;
+    emit_values(key_found, variant_found, entry_found, out)
+}
