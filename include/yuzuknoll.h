@@ -1,7 +1,7 @@
 /* Yuzuknoll: Metal fragment texts of the Direct3D 9 fixed-function pixel path.
  *
  * The archive is made by `rt staticlib service` (target/staticlib/libservice.a). It needs no set-up, keeps no state, takes no memory and calls
- * nothing outside; any number of threads may call it, each with buffers of its own. x86-64 Linux.
+ * nothing outside but memcpy and memset; any number of threads may call it, each with buffers of its own. x86-64 Linux.
  *
  * Memory is lent as a pointer and a length. A pointer is never null, also where the length is 0, and what is written overlaps nothing else that the
  * same call is lent.

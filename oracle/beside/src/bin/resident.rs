@@ -103,7 +103,7 @@ impl Run {
 
     fn emissions(&mut self, count: u64) {
         for _ in 0..count {
-            if self.done % 16 == 0 {
+            if self.done.is_multiple_of(16) {
                 self.renew();
             }
             let bits = self.rng.next_u64() as usize;
@@ -136,7 +136,7 @@ impl Run {
         let key = &self.records[key].key;
         let variant = &self.records[variant].variant;
         let entry = &self.records[entry].entry;
-        if self.done % 2 == 0 {
+        if self.done.is_multiple_of(2) {
             return packed::emit(key, variant, entry, &mut self.buffer);
         }
         for record in [&key[..], variant, entry] {
@@ -154,7 +154,7 @@ impl Run {
             variant: self.variants[variant],
             entry: self.entries[entry],
         });
-        let expected = if self.done % 2 == 0 {
+        let expected = if self.done.is_multiple_of(2) {
             emitted(&outcome)
         } else {
             applied(Kind::Emit, Some(&outcome))

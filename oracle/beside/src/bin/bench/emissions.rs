@@ -12,9 +12,9 @@ use oraclelib::{
     generate::{self, Rng},
     records::{Combiner, Key, STAGES, Stage, TEXTURED, Triple},
 };
-use yuzuknoll::TEXT_LENGTH;
+use yuzuknoll::{HELD_LENGTH, TEXT_LENGTH};
 
-use crate::measure::{Row, Sides, measure};
+use crate::measure::{Clock, Row, Sides, measure};
 
 /// One emission's arguments, in each one's types, and its text.
 pub struct Call {
@@ -75,7 +75,7 @@ pub fn row(group: &'static str, name: &str, passes: usize, calls: &[&Call]) -> R
             }
         }),
     };
-    let (rust, ours, copy) = measure(passes, calls.len(), sides);
+    let (rust, ours, copy) = measure(Clock::Thread, passes, calls.len(), sides);
     let bytes: usize = calls.iter().map(|call| call.text.len()).sum();
     Row {
         group,
@@ -103,15 +103,85 @@ pub fn emissions(rng: &mut Rng, count: usize, passes: usize) -> Vec<Row> {
         all("of the comparison", &corpus),
         all("everyday keys, none to four stages", &everyday),
     ];
+    rows.extend(parts(&everyday, passes));
     rows.extend(by_length(&corpus, passes));
     rows
+}
+
+/// What an emission does before it writes: the records read and checked (an entry that is refused ends there), and the text measured (no buffer).
+fn parts(calls: &[Call], passes: usize) -> [Row; 2] {
+    let refused: Vec<Records> = calls
+        .iter()
+        .map(|call| without_name(call.records))
+        .collect();
+    let (mut buffer, mut copied) = (vec![0; TEXT_LENGTH], vec![0; TEXT_LENGTH]);
+    let read = Sides {
+        rust: None,
+        ours: Box::new(|| {
+            for records in &refused {
+                black_box(black_box(records).emit(black_box(&mut buffer)));
+            }
+        }),
+        copy: Box::new(|| {
+            for records in &refused {
+                let mut copy = black_box(*records);
+                black_box(&mut copy);
+            }
+        }),
+    };
+    let measured = Sides {
+        rust: None,
+        ours: Box::new(|| {
+            for call in calls {
+                black_box(black_box(&call.records).emit(black_box(&mut [])));
+            }
+        }),
+        copy: Box::new(|| {
+            for call in calls {
+                copied[..call.text.len()].copy_from_slice(black_box(&call.text));
+                black_box(&mut copied);
+            }
+        }),
+    };
+    let text: usize = calls.iter().map(|call| call.text.len()).sum();
+    [
+        (
+            "read and checked, the entry refused",
+            HELD_LENGTH as f64,
+            read,
+        ),
+        (
+            "read, checked and measured, no buffer",
+            text as f64 / calls.len() as f64,
+            measured,
+        ),
+    ]
+    .map(|(name, bytes, sides)| {
+        let (rust, ours, copy) = measure(Clock::Thread, passes, calls.len(), sides);
+        Row {
+            group: "parts",
+            name: name.to_owned(),
+            calls: calls.len(),
+            bytes,
+            rust,
+            ours,
+            copy,
+        }
+    })
+}
+
+fn without_name(mut records: Records) -> Records {
+    records.entry[1] = 0;
+    records
 }
 
 /// Bytes of text in one row of the growth with text.
 const STEP: usize = 500;
 /// Fewer calls than these make no row.
 const FEWEST: usize = 50;
-const MOST: usize = 2_000;
+const MOST: usize = 1_000;
+/// Rows of few calls are passed over more often.
+const MORE: usize = 3;
 
 fn by_length(corpus: &[Call], passes: usize) -> Vec<Row> {
     let longest = corpus.iter().map(|call| call.text.len()).max().unwrap_or(0);
@@ -121,7 +191,7 @@ fn by_length(corpus: &[Call], passes: usize) -> Vec<Row> {
         let calls: Vec<&Call> = corpus.iter().filter(within).take(MOST).collect();
         if calls.len() >= FEWEST {
             let name = format!("{from} to {}", from + STEP - 1);
-            rows.push(row("text", &name, passes, &calls));
+            rows.push(row("text", &name, MORE * passes, &calls));
         }
     }
     rows
@@ -135,7 +205,7 @@ pub fn by_stages(rng: &mut Rng, passes: usize) -> Vec<Row> {
                 .map(|_| Call::of(&Triple::plain(key_of(rng, stages))))
                 .collect();
             let calls: Vec<&Call> = calls.iter().collect();
-            row("stages", &stages.to_string(), passes, &calls)
+            row("stages", &stages.to_string(), MORE * passes, &calls)
         })
         .collect()
 }

@@ -1,6 +1,6 @@
 //! Times of the Rust, of ours and of a plain copy, over the same calls.
 
-use std::time::Instant;
+use std::time::{Duration, Instant};
 
 /// Nanoseconds of one call: the median of the passes, and the best.
 #[derive(Clone, Copy, Debug)]
@@ -42,14 +42,50 @@ pub struct Sides<'a> {
     pub copy: Box<dyn FnMut() + 'a>,
 }
 
-fn timed(one: &mut dyn FnMut()) -> u128 {
-    let start = Instant::now();
-    one();
-    start.elapsed().as_nanos()
+/// The thread's own processor time, which other work on the machine touches little; or the time on the wall, where other processes do the work.
+#[derive(Clone, Copy)]
+pub enum Clock {
+    Thread,
+    Wall,
+}
+
+impl Clock {
+    fn timed(self, one: &mut dyn FnMut()) -> u128 {
+        match self {
+            Self::Thread => {
+                let start = thread_time();
+                one();
+                (thread_time() - start).as_nanos()
+            }
+            Self::Wall => {
+                let start = Instant::now();
+                one();
+                start.elapsed().as_nanos()
+            }
+        }
+    }
+}
+
+/// `clock_gettime` of x86-64 Linux, which the standard library links but does not offer for this clock.
+fn thread_time() -> Duration {
+    const CLOCK_THREAD_CPUTIME_ID: i32 = 3;
+    unsafe extern "C" {
+        fn clock_gettime(clock: i32, time: *mut [i64; 2]) -> i32;
+    }
+    let mut time = [0; 2];
+    // Safety: a timespec is two numbers of eight bytes.
+    let status = unsafe { clock_gettime(CLOCK_THREAD_CPUTIME_ID, &raw mut time) };
+    assert_eq!(status, 0, "clock_gettime");
+    Duration::new(time[0] as u64, time[1] as u32)
 }
 
 /// In each pass every side goes through the calls once, so that all see the same machine. The first pass warms up and is not counted.
-pub fn measure(passes: usize, calls: usize, sides: Sides) -> (Option<Time>, Time, Time) {
+pub fn measure(
+    clock: Clock,
+    passes: usize,
+    calls: usize,
+    sides: Sides,
+) -> (Option<Time>, Time, Time) {
     let Sides {
         mut rust,
         mut ours,
@@ -58,9 +94,9 @@ pub fn measure(passes: usize, calls: usize, sides: Sides) -> (Option<Time>, Time
     let (mut rusts, mut mine, mut copies) = (Vec::new(), Vec::new(), Vec::new());
     for pass in 0..=passes {
         let times = (
-            rust.as_mut().map(|rust| timed(rust.as_mut())),
-            timed(ours.as_mut()),
-            timed(copy.as_mut()),
+            rust.as_mut().map(|rust| clock.timed(rust.as_mut())),
+            clock.timed(ours.as_mut()),
+            clock.timed(copy.as_mut()),
         );
         if pass > 0 {
             rusts.extend(times.0);

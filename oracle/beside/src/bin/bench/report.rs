@@ -28,8 +28,9 @@ pub fn csv(rows: &[Row]) -> String {
 }
 
 /// The groups with their titles, in the order of the tables.
-const GROUPS: [(&str, &str, &str); 6] = [
+const GROUPS: [(&str, &str, &str); 7] = [
     ("emission", "emission", "bytes a text"),
+    ("parts", "parts of it, everyday keys", "bytes"),
     ("read", "reading a record", "bytes"),
     ("write", "writing a record", "bytes"),
     ("apply", "applying a record", "bytes"),

@@ -20,7 +20,7 @@ use oraclelib::{
 };
 use yuzuknoll::{Applied, HELD_LENGTH, TEXT_LENGTH, packed};
 
-use crate::measure::{Row, Sides, measure};
+use crate::measure::{Clock, Row, Sides, measure};
 
 /// Everyday triples, a kind's records of them, and a stream of them all.
 struct Corpus {
@@ -76,7 +76,18 @@ fn copy_of(records: &[Vec<u8>]) -> Box<dyn FnMut() + '_> {
 }
 
 fn row(group: &'static str, name: &str, passes: usize, records: &[Vec<u8>], sides: Sides) -> Row {
-    let (rust, ours, copy) = measure(passes, records.len(), sides);
+    row_by(Clock::Thread, group, name, passes, records, sides)
+}
+
+fn row_by(
+    clock: Clock,
+    group: &'static str,
+    name: &str,
+    passes: usize,
+    records: &[Vec<u8>],
+    sides: Sides,
+) -> Row {
+    let (rust, ours, copy) = measure(clock, passes, records.len(), sides);
     let bytes: usize = records.iter().map(Vec::len).sum();
     Row {
         group,
@@ -197,6 +208,9 @@ fn emit_row(corpus: &Corpus, passes: usize) -> Row {
     };
     row("apply", "emit", passes, &texts, sides)
 }
+
+/// One input is passed over more often than a corpus.
+const MORE: usize = 5;
 
 /// An input that is as long as the program takes: everyday triples, an emit record behind each.
 fn whole_input(rng: &mut Rng) -> Vec<u8> {
@@ -325,10 +339,11 @@ fn as_processes(input: &[u8], output: &[u8], passes: usize, ffps: &Path, oracle:
         ours: Box::new(|| run(ffps, &from)),
         copy: Box::new(|| run(Path::new("cat"), &printed)),
     };
-    let row = row(
+    let row = row_by(
+        Clock::Wall,
         "input",
         "as processes",
-        passes * 5,
+        MORE * passes,
         &[output.to_vec()],
         sides,
     );
