@@ -43,7 +43,7 @@ impl Refusal {
         self as u8
     }
 
-    /// The refusal in an answer, if there is one.
+    /// The refusal in an answer, if there is one. The functions are proved to answer no number above 8.
     pub(crate) fn check(answer: u64) -> Result<(), Self> {
         match answer as u8 {
             0 => Ok(()),

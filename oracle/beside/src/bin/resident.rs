@@ -1,8 +1,8 @@
 //! `resident [SEED [COUNT]]`: COUNT emissions in one process, as in the resident service, every thousandth compared with the Rust.
 //!
 //! Keys, variants and entries are drawn from pools that are renewed all the time, unusual ones and those of a usual scene. Every other emission goes
-//! through yuzuknoll_apply: three records, then an emit record. Resident memory is read at the start, after every hundredth of the emissions and at the
-//! end. The exit status is 1 if there is a difference, an emission is refused, or memory has grown by more than a mebibyte.
+//! through yuzuknoll_apply: three records, then an emit record. Resident memory is read near the start, after every hundredth of the emissions and at
+//! the end. The exit status is 1 if there is a difference, an emission is refused, or memory has grown by more than a mebibyte.
 
 use std::{process::ExitCode, time::Instant};
 

@@ -1,8 +1,8 @@
-//! `bench FOLDER [PASSES [SEED [COUNT]]]`: the time of the archive's functions and of the program, beside the Rust and beside a plain copy of the same
-//! bytes. Writes performance.csv and performance.svg to FOLDER, and prints tables in Markdown.
+//! `bench FOLDER [PASSES [SEED [COUNT]]]`: the time of the archive's functions and of the program, beside the Rust and beside a plain copy of the
+//! same bytes. Writes performance.csv and performance.svg to FOLDER, and prints tables in Markdown.
 //!
-//! The Rust's types, and the records, are made before. The Rust's text is a `String` of its own; ours and the copy go into one buffer of 16,384 bytes,
-//! which is not cleared between calls. `FFPS` and `ORACLE` name the programs; without them whole inputs are measured in one process alone.
+//! The Rust's types, and the records, are made before. The Rust's text is a `String` of its own; ours and the copy go into one buffer of 16,384
+//! bytes, which is not cleared between calls. `FFPS` and `ORACLE` name the programs; without them whole inputs are measured in one process alone.
 
 mod emissions;
 mod measure;
