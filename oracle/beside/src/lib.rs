@@ -1,71 +1,16 @@
-//! A safe wrapper over the C interface (include/yuzuknoll.h), and what the comparison and the benchmark share.
+//! What the programs beside the archive share: records for its functions, the numbers that the Rust's answers give, and buffers that show what was
+//! written outside.
 
-use oraclelib::records::{ENTRY, KEY, Kind, Triple, VARIANT, record};
+mod lent;
 
-// A `&[u8]` of Rattle is a pointer and a length.
-unsafe extern "C" {
-    fn yuzuknoll_emit(
-        key: *const u8,
-        key_length: usize,
-        variant: *const u8,
-        variant_length: usize,
-        entry: *const u8,
-        entry_length: usize,
-        out: *mut u8,
-        out_length: usize,
-    ) -> u64;
-}
+use oraclelib::{
+    Outcome,
+    program::Record,
+    records::{ENTRY, KEY, Kind, Refusal, Triple, VARIANT, record},
+};
+use yuzuknoll::packed;
 
-/// The number that `yuzuknoll_emit` answers, taken apart.
-#[derive(Clone, Copy, Debug, PartialEq, Eq)]
-pub struct Answer {
-    /// 01's number, 0 for an accepted emission.
-    pub refusal: u8,
-    pub mask: u8,
-    pub rows: u8,
-    pub lookups: u8,
-    pub warning: u8,
-    pub length: usize,
-}
-
-impl Answer {
-    #[must_use]
-    pub const fn of(packed: u64) -> Self {
-        let [refusal, mask, rows, lookups, warning, ..] = packed.to_le_bytes();
-        Self {
-            refusal,
-            mask,
-            rows,
-            lookups,
-            warning,
-            length: (packed >> 40) as usize,
-        }
-    }
-
-    #[must_use]
-    pub const fn refused(number: u8) -> Self {
-        Self::of(number as u64)
-    }
-}
-
-/// The packed answer to three parts, each a whole record where it is good, the text in front of `out`.
-#[must_use]
-pub fn emit_packed(key: &[u8], variant: &[u8], entry: &[u8], out: &mut [u8]) -> u64 {
-    // Safety: each pointer is good for its length, and `out` is borrowed by nothing else. The function asks nothing more: it is proved to stay
-    // inside the slices that it is lent.
-    unsafe {
-        yuzuknoll_emit(
-            key.as_ptr(),
-            key.len(),
-            variant.as_ptr(),
-            variant.len(),
-            entry.as_ptr(),
-            entry.len(),
-            out.as_mut_ptr(),
-            out.len(),
-        )
-    }
-}
+pub use lent::Lent;
 
 /// The three records of a triple.
 #[derive(Clone, Copy, Debug, PartialEq, Eq)]
@@ -94,8 +39,55 @@ impl Records {
         }
     }
 
+    /// The number that `yuzuknoll_emit` answers.
     #[must_use]
-    pub fn emit(&self, out: &mut [u8]) -> Answer {
-        Answer::of(emit_packed(&self.key, &self.variant, &self.entry, out))
+    pub fn emit(&self, out: &mut [u8]) -> u64 {
+        packed::emit(&self.key, &self.variant, &self.entry, out)
+    }
+}
+
+/// What `yuzuknoll_emit` must answer where the Rust gives this.
+///
+/// # Panics
+/// If the mask has more than eight bits, or the text 65,536 bytes.
+#[must_use]
+pub fn emitted(o: &Outcome) -> u64 {
+    let mask = u8::try_from(o.mask).expect("eight stages");
+    let [low, high] = u16::try_from(o.text.len())
+        .expect("a text of 01")
+        .to_le_bytes();
+    u64::from_le_bytes([0, mask, o.rows, o.lookups, o.warning, low, high, 0])
+}
+
+/// What `yuzuknoll_read` and `yuzuknoll_write` must answer where the Rust side reads this.
+#[must_use]
+pub fn taken(kind: Kind) -> u64 {
+    (kind as u64) << 8 | (length(kind) as u64) << 16
+}
+
+/// Bytes of a record of a kind.
+#[must_use]
+pub const fn length(kind: Kind) -> usize {
+    1 + kind.size()
+}
+
+/// What `yuzuknoll_apply` must answer where the Rust side takes a record of a kind, with an outcome if it emits.
+#[must_use]
+pub fn applied(kind: Kind, outcome: Option<&Outcome>) -> u64 {
+    outcome.map_or(0, emitted) | (length(kind) as u64) << 56
+}
+
+/// What each function must answer to a refusal.
+#[must_use]
+pub fn refused(refusal: Refusal) -> u64 {
+    refusal.number().into()
+}
+
+/// What a read record must answer, refused or not.
+#[must_use]
+pub fn read_answer(read: &Result<Record, Refusal>) -> u64 {
+    match read {
+        Ok(record) => taken(record.kind()),
+        Err(refusal) => refused(*refusal),
     }
 }

@@ -4,14 +4,14 @@ use std::io::Write;
 
 use crate::{
     emission::{Outcome, emit},
-    records::{Entry, Key, Kind, Refusal, Triple, Variant},
+    records::{Entry, Key, Kind, Refusal, Triple, Variant, record},
 };
 
 pub const INPUT_CAP: usize = 32_768;
 pub const TEXT_CAP: usize = 16_384;
 
 /// A record at the front of some bytes, free of causes.
-enum Record {
+pub enum Record {
     Key(Key),
     Variant(Variant),
     Entry(Entry),
@@ -19,7 +19,8 @@ enum Record {
 }
 
 impl Record {
-    const fn kind(&self) -> Kind {
+    #[must_use]
+    pub const fn kind(&self) -> Kind {
         match self {
             Self::Key(_) => Kind::Key,
             Self::Variant(_) => Kind::Variant,
@@ -37,7 +38,21 @@ impl Record {
         }
     }
 
-    fn read(bytes: &[u8]) -> Result<Self, Refusal> {
+    /// The record's bytes, from its value.
+    #[must_use]
+    pub fn bytes(&self) -> Vec<u8> {
+        let body = match self {
+            Self::Key(key) => key.body(),
+            Self::Variant(variant) => variant.body(),
+            Self::Entry(entry) => entry.body(),
+            Self::Emit => Vec::new(),
+        };
+        record(self.kind(), &body)
+    }
+
+    /// # Errors
+    /// The first of the causes 1 to 6.
+    pub fn read(bytes: &[u8]) -> Result<Self, Refusal> {
         let (&kind, rest) = bytes.split_first().ok_or(Refusal::Cut)?;
         let kind = Kind::of(kind).ok_or(Refusal::Kind)?;
         let body = rest.get(..kind.size()).ok_or(Refusal::Cut)?;
@@ -52,26 +67,39 @@ impl Record {
 }
 
 /// The held key, variant and entry.
-#[derive(Default)]
-struct Held {
-    key: Option<Key>,
-    variant: Option<Variant>,
-    entry: Option<Entry>,
+#[derive(Clone, Copy, Default)]
+pub struct Held {
+    pub key: Option<Key>,
+    pub variant: Option<Variant>,
+    pub entry: Option<Entry>,
 }
 
 impl Held {
     /// Takes a record; an emit record has an outcome.
-    fn apply(&mut self, record: Record, text_cap: usize) -> Result<Option<Outcome>, Refusal> {
+    ///
+    /// # Errors
+    /// 7 or 8, of an emit record.
+    pub fn apply(&mut self, record: Record, text_cap: usize) -> Result<Option<Outcome>, Refusal> {
+        if let Record::Emit = record {
+            return self.emit(text_cap).map(Some);
+        }
+        self.replace(record);
+        Ok(None)
+    }
+
+    /// Holds a record's value; an emit record has none.
+    pub fn replace(&mut self, record: Record) {
         match record {
             Record::Key(key) => self.key = Some(key),
             Record::Variant(variant) => self.variant = Some(variant),
             Record::Entry(entry) => self.entry = Some(entry),
-            Record::Emit => return self.emit(text_cap).map(Some),
+            Record::Emit => {}
         }
-        Ok(None)
     }
 
-    fn emit(&self, text_cap: usize) -> Result<Outcome, Refusal> {
+    /// # Errors
+    /// 7 or 8.
+    pub fn emit(&self, text_cap: usize) -> Result<Outcome, Refusal> {
         let (Some(key), Some(variant), Some(entry)) = (self.key, self.variant, self.entry) else {
             return Err(Refusal::NothingHeld);
         };

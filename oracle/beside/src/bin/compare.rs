@@ -6,17 +6,16 @@
 
 use std::process::ExitCode;
 
-use beside::{Answer, Records, emit_packed};
+use beside::{Lent, Records, emitted, refused};
 use oraclelib::{
     emit,
     generate::{self, Rng},
     records::{Kind, Refusal, Triple},
 };
+use yuzuknoll::packed;
 
 const SEED: u64 = 1;
 const COUNT: u64 = 20_000;
-/// Bytes of the pattern in front of the buffer and behind it.
-const MARGIN: usize = 64;
 const TEXT: usize = 16_384;
 /// How many differences are printed.
 const SHOWN: u64 = 10;
@@ -76,8 +75,7 @@ impl Parts {
 
 struct Run {
     rng: Rng,
-    buffer: Vec<u8>,
-    expected: Vec<u8>,
+    out: Lent,
     triples: u64,
     calls: u64,
     text: usize,
@@ -90,8 +88,7 @@ impl Run {
     fn new(seed: u64) -> Self {
         Self {
             rng: Rng::new(seed),
-            buffer: Vec::new(),
-            expected: Vec::new(),
+            out: Lent::new(),
             triples: 0,
             calls: 0,
             text: 0,
@@ -104,15 +101,8 @@ impl Run {
     /// A triple that is free of causes, in buffers of several lengths.
     fn accepted(&mut self, triple: &Triple) {
         let o = emit(triple);
-        let accepted = Answer {
-            refusal: 0,
-            mask: u8::try_from(o.mask).expect("eight stages"),
-            rows: o.rows,
-            lookups: o.lookups,
-            warning: o.warning,
-            length: o.text.len(),
-        };
-        let too_long = Answer::refused(Refusal::LongText.number());
+        let accepted = emitted(&o);
+        let too_long = refused(Refusal::LongText);
         let text = o.text.as_bytes();
         let parts = Parts::of(triple);
         let longer = if self.rng.one_in(2) {
@@ -159,12 +149,7 @@ impl Run {
             return;
         };
         let length = self.rng.pick(&[0, 100, 3_000, TEXT]);
-        self.call(
-            &Parts::of(&triple),
-            length,
-            Answer::refused(cause.number()),
-            &[],
-        );
+        self.call(&Parts::of(&triple), length, refused(cause), &[]);
     }
 
     /// A part of another length, or with another kind byte; perhaps with a cause in its body too.
@@ -181,7 +166,7 @@ impl Run {
             let last = part.len() - 1;
             part[last] = 0xff;
         }
-        let mut number = Refusal::Cut.number();
+        let mut refusal = Refusal::Cut;
         match rng.below(4) {
             0 => part.truncate(0),
             1 => {
@@ -200,54 +185,28 @@ impl Run {
                 while part[0] == kind as u8 {
                     part[0] = rng.pick(&[0, 1, 2, 3, 4, 5, 255]);
                 }
-                number = Refusal::Kind.number();
+                refusal = Refusal::Kind;
             }
         }
         let length = self.rng.pick(&[0, 3_000, TEXT]);
-        self.call(&parts, length, Answer::refused(number), &[]);
+        self.call(&parts, length, refused(refusal), &[]);
     }
 
     /// One call with a buffer of a length, and what must come of it.
-    fn call(&mut self, parts: &Parts, length: usize, answer: Answer, text: &[u8]) {
-        let whole = length + 2 * MARGIN;
-        let start = self.rng.byte();
-        self.buffer.clear();
-        self.buffer
-            .extend((0..whole).map(|n| (n as u8).wrapping_mul(31).wrapping_add(start)));
-        self.expected.clear();
-        self.expected.extend_from_slice(&self.buffer);
-        self.expected[MARGIN..][..text.len()].copy_from_slice(text);
+    fn call(&mut self, parts: &Parts, length: usize, answer: u64, text: &[u8]) {
+        self.out.fill(length, self.rng.byte());
+        self.out.expect(0, text);
         let before = parts.clone();
-        let lent = &mut self.buffer[MARGIN..][..length];
-        let got = Answer::of(emit_packed(&parts.key, &parts.variant, &parts.entry, lent));
+        let got = packed::emit(&parts.key, &parts.variant, &parts.entry, self.out.buffer());
         self.calls += 1;
         self.bytes += length;
-        self.refused[usize::from(answer.refusal)] += 1;
-        if got != answer || self.buffer != self.expected || *parts != before {
+        self.refused[(answer & 255) as usize] += 1;
+        if got != answer || !self.out.as_expected() || *parts != before {
             self.differences += 1;
             if self.differences <= SHOWN {
-                let at = self
-                    .buffer
-                    .iter()
-                    .zip(&self.expected)
-                    .position(|(a, b)| a != b);
                 println!("difference: {parts:02x?}, a buffer of {length} bytes");
-                println!("  expected {answer:?}, got {got:?}");
-                match at {
-                    Some(at) if at < MARGIN => println!("  a byte in front of the buffer"),
-                    Some(at) => {
-                        let from = at - MARGIN;
-                        println!("  buffer differs first at {from}");
-                        for (name, bytes) in [("expected", &self.expected), ("got", &self.buffer)] {
-                            let end = (at + 60).min(bytes.len());
-                            println!(
-                                "  {name}: {}",
-                                String::from_utf8_lossy(&bytes[at..end]).escape_debug()
-                            );
-                        }
-                    }
-                    None => println!("  the buffer is as expected"),
-                }
+                println!("  expected {answer:#018x}, got {got:#018x}");
+                println!("  the buffer {}", self.out.difference());
             }
         }
     }

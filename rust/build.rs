@@ -2,7 +2,7 @@
 
 use std::{env, fs, path::PathBuf};
 
-const DEFAULT: &str = "../../target/staticlib/libservice.a";
+const DEFAULT: &str = "../target/staticlib/libservice.a";
 
 fn main() {
     println!("cargo:rerun-if-env-changed=YUZUKNOLL_LIB");

@@ -1,0 +1,97 @@
+/* seeds FOLDER COUNT: inputs of good records for interface.c, one to a file. */
+#include <stdint.h>
+#include <stdio.h>
+#include <stdlib.h>
+#include <string.h>
+
+#include "yuzuknoll.h"
+
+#define MOST 2048
+
+static uint64_t state = 1;
+
+static unsigned below(unsigned bound) {
+    state = state * 6364136223846793005u + 1442695040888963407u;
+    return (unsigned)(state >> 33) % bound;
+}
+
+static uint8_t *put(uint8_t *at, unsigned byte) {
+    *at = (uint8_t)byte;
+    return at + 1;
+}
+
+static uint8_t *put_argument(uint8_t *at) { return put(at, below(8) | (below(3) == 0 ? below(16) << 4 : 0)); }
+
+static uint8_t *put_key(uint8_t *at) {
+    at = put(at, YUZUKNOLL_KIND_KEY);
+    for (int stage = 0; stage < 8; stage++) {
+        for (int role = 0; role < 2; role++) {
+            at = put(at, below(12) == 0 ? 1 : 1 + below(26));
+            at = put_argument(put_argument(at));
+        }
+        at = put(at, below(4));
+    }
+    return put(put(at, below(2)), below(2) == 0 ? 0 : below(256));
+}
+
+static uint8_t *put_variant(uint8_t *at) {
+    at = put(at, YUZUKNOLL_KIND_VARIANT);
+    at = put(put(put(at, below(10)), below(4)), below(4));
+    for (int byte = 0; byte < 14; byte++)
+        at = put(at, below(3) == 0 ? below(256) : 0);
+    return put(put(at, below(256)), below(64));
+}
+
+static uint8_t *put_entry(uint8_t *at) {
+    static const char letters[] = "_ABCDEFGHIJKLMNOPQRSTUVWXYZabcdefghijklmnopqrstuvwxyz0123456789";
+    unsigned length = 1 + below(32);
+    memset(at, 0, YUZUKNOLL_ENTRY_LENGTH);
+    at[0] = YUZUKNOLL_KIND_ENTRY;
+    at[1] = (uint8_t)length;
+    for (unsigned i = 0; i < length; i++)
+        at[2 + i] = (uint8_t)letters[below(i == 0 ? 53 : 63)];
+    return at + YUZUKNOLL_ENTRY_LENGTH;
+}
+
+/* Buffers that are large enough, or of any length. */
+static uint8_t *put_lengths(uint8_t *at) {
+    unsigned room = below(4) == 0 ? below(4000) : YUZUKNOLL_TEXT_LENGTH;
+    return put(put(put(put(at, room & 255), room >> 8), below(80)), 0);
+}
+
+static uint8_t *put_held(uint8_t *at) {
+    memset(at, 0, YUZUKNOLL_HELD_LENGTH);
+    if (below(4) != 0)
+        put_entry(put_variant(put_key(at)));
+    return at + YUZUKNOLL_HELD_LENGTH;
+}
+
+static uint8_t *put_records(uint8_t *at) {
+    for (unsigned left = below(10); left != 0; left--) {
+        switch (below(5)) {
+        case 0: at = put_key(at); break;
+        case 1: at = put_variant(at); break;
+        case 2: at = put_entry(at); break;
+        default: at = put(at, YUZUKNOLL_KIND_EMIT);
+        }
+    }
+    return put(at, YUZUKNOLL_KIND_EMIT);
+}
+
+int main(int count, char **arguments) {
+    static uint8_t input[MOST];
+    if (count != 3)
+        return 2;
+    for (int n = atoi(arguments[2]); n != 0; n--) {
+        char path[4096];
+        snprintf(path, sizeof path, "%s/%03d", arguments[1], n);
+        FILE *file = fopen(path, "wb");
+        if (file == NULL)
+            return 1;
+        uint8_t *end = put_records(put_held(put_lengths(input)));
+        fwrite(input, 1, (size_t)(end - input), file);
+        if (fclose(file) != 0)
+            return 1;
+    }
+    return 0;
+}
