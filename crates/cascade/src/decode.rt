@@ -14,7 +14,7 @@ use combiners::Expression;
 use combiners::Op;
 use combiners::Source;
 use combiners::arguments::arg_of;
-use combiners::combine::op_of;
+use combiners::ops::op_of;
 ghost use mathlib.Core.Path.{_≡_};
 ghost use Rattle.cascade.specs.Stages.{fallback, combined, expressionOf, alphaOf, decode};
 

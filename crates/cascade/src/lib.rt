@@ -1,7 +1,6 @@
-//! The cascade of a key: its active stages, what each reads and writes, and the line of each.
+//! The cascade of a key: its active stages, and what each reads and writes.
 pub mod decode;
 pub mod keys;
-pub mod line;
 pub mod reading;
 pub mod walks;
 

@@ -2,12 +2,12 @@
 use crate::Arg;
 use crate::Source;
 use text::put;
-use text::put_digit;
+use text::put_numbered;
 use text::put_when;
 ghost use Prim.Native.Nat.{_<_};
 ghost use mathlib.Core.Path.{_≡_};
 ghost use Rattle.text.specs.Buffer.{Wrote};
-ghost use Rattle.combiners.specs.Arguments.{sourceOf, argOf, texelName, constantRow, sourceText, replicated, argText};
+ghost use Rattle.combiners.specs.Arguments.{sourceOf, argOf, sourceText, replicated, argText};
 
 pub fn source_of(selector: u8, textured: bool) -> Source
     ensures { λ r. ⌜ r ≡ sourceOf textured selector ⌝ }
@@ -41,23 +41,6 @@ pub fn arg_of(byte: u8, textured: bool) -> Arg
     }
 }
 
-pub fn put_texel(out: &mut [u8], at: usize, stage: u8) -> usize
-    requires { ⌜ stage < 8 ⌝ }
-    ensures { λ r. ⌜ Wrote (now (out .entry)) at (now (out .exit)) r (texelName stage) ⌝ }
-{
-    let a = put(out, at, b"t");
-    put_digit(out, a, stage)
-}
-
-fn put_constant(out: &mut [u8], at: usize, stage: u8) -> usize
-    requires { ⌜ stage < 8 ⌝ }
-    ensures { λ r. ⌜ Wrote (now (out .entry)) at (now (out .exit)) r (constantRow stage) ⌝ }
-{
-    let mut p = put(out, at, b"ps_c[");
-    p = put_digit(out, p, stage + 1);
-    put(out, p, b"]")
-}
-
 fn put_source(out: &mut [u8], at: usize, s: Source, stage: u8) -> usize
     requires { ⌜ stage < 8 ⌝ }
     ensures { λ r. ⌜ Wrote (now (out .entry)) at (now (out .exit)) r (sourceText stage s) ⌝ }
@@ -65,11 +48,11 @@ fn put_source(out: &mut [u8], at: usize, s: Source, stage: u8) -> usize
     match s {
         Source::Diffuse => put(out, at, b"in.color0"),
         Source::Current => put(out, at, b"current"),
-        Source::Texture => put_texel(out, at, stage),
+        Source::Texture => put_numbered(out, at, b"t#", stage),
         Source::Factor => put(out, at, b"ps_c[0]"),
         Source::Specular => put(out, at, b"in.color1"),
         Source::Temp => put(out, at, b"temp"),
-        Source::Constant => put_constant(out, at, stage),
+        Source::Constant => put_numbered(out, at, b"ps_c[#]", stage + 1),
         Source::White => put(out, at, b"float4(1.0)"),
     }
 }

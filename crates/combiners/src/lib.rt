@@ -1,6 +1,6 @@
-//! Arguments and combiners: an argument byte and an op code decoded, and their texts written.
+//! Arguments and operations: an argument byte and an op code decoded, and an argument's text written.
 pub mod arguments;
-pub mod combine;
+pub mod ops;
 
 // Where an argument's value comes from.
 pub enum Source {

@@ -1,32 +1,23 @@
 //! Emission from values: a key, a variant and an entry to Metal text in a lent buffer.
-mod header;
-mod output;
-mod signature;
-mod stages;
-mod whole;
-
 pub use cascade::Combiner;
 pub use cascade::Key;
 pub use cascade::Stage;
+use cascade::Survey;
 use cascade::walks::survey;
 pub use metal::Answer;
 pub use metal::Emitted;
 pub use metal::Entry;
 pub use metal::Refusal;
 pub use metal::Variant;
+use writers::whole::put_whole;
 ghost use Prim.Native.Nat.{_≤_, _+_};
 ghost use mathlib.Core.Path.{_≡_};
 ghost use mathlib.Core.Bool.{cond};
 ghost use lib.Dec.{leb};
 ghost use lib.ListN.{length};
+ghost use Rattle.cascade.specs.Survey.{surveyOf};
 ghost use Rattle.metal.specs.Results.{answerOf, bufferAfter, frontOf, textOf};
 ghost use Rattle.metal.specs.Demand.{Demanded};
-
-// The place behind what has been written, and the lookups among it.
-pub struct Place {
-    pub at: usize,
-    pub lookups: u8,
-}
 
 // An alpha function above 8 warns too.
 fn warning_of(stages: u8, alpha_func: u8) -> u8
@@ -37,6 +28,19 @@ fn warning_of(stages: u8, alpha_func: u8) -> u8
         return stages + 8;
     }
     stages
+}
+
+// Whether the text has at most room bytes. No text is longer than 16,384 bytes, so only a shorter buffer has to be measured for.
+fn fits(k: Key, v: Variant, e: Entry, u: Survey, room: usize) -> bool
+    requires { ⌜ (u ≡ surveyOf (k .stages)) × (e .len ≤ 32) ⌝ }
+    ensures { λ r. ⌜ r ≡ leb (length (textOf k v e)) room ⌝ }
+{
+    if 16384 <= room {
+        return true;
+    }
+    let mut none = [0u8; 0];
+    let measured = put_whole(&mut none, k, v, e, u);
+    measured.at <= room
 }
 
 // Writes the text of a key, a variant and an entry to the front of out; bytes behind it stay. A refusal leaves out as it was.
@@ -55,10 +59,10 @@ pub fn emit(key: Key, variant: Variant, entry: Entry, out: &mut [u8]) -> Answer
         return Answer::Refused(Refusal::EntryName);
     }
     let u = survey(key);
-    if !whole::fits(key, variant, entry, u, out.len()) {
+    if !fits(key, variant, entry, u, out.len()) {
         return Answer::Refused(Refusal::TextTooLong);
     }
-    let written = whole::put_whole(out, key, variant, entry, u);
+    let written = put_whole(out, key, variant, entry, u);
     let warning = warning_of(u.warning, variant.alpha_func);
     Answer::Text(Emitted {
         length: written.at,

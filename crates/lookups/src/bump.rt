@@ -1,19 +1,19 @@
 //! Bump stages: the coordinate that one displaces, the texel that one scales, and all that a lookup behind one writes.
 use crate::coordinates::put_coordinate;
-use crate::coordinates::put_tested_quotient;
 use crate::lookup::put_lookup;
-use combiners::arguments::put_texel;
 use metal::Before;
 use metal::Coordinate;
 use metal::Lookup;
 use text::put;
 use text::put_decimal;
+use text::put_numbered;
 ghost use Prim.Native.Nat.{_<_, _+_, _*_};
 ghost use mathlib.Core.Bool.{false};
-ghost use Rattle.text.specs.Text.{raw, lit, pick, when, _⊕_};
+ghost use Rattle.text.specs.Text.{lit, pick, when, _⊕_};
+ghost use Rattle.text.specs.Marks.{numbered};
 ghost use Rattle.text.specs.Buffer.{Wrote};
 ghost use Rattle.combiners.specs.Arguments.{texelName};
-ghost use Rattle.metal.specs.Lookups.{coordinateText, bumpRow, lookupText, dividedLine, offsetText, movedText, displacedLine, displacementText, luminanceLine, sampleText};
+ghost use Rattle.metal.specs.Lookups.{coordinateText, bumpRow, lookupText, dividedLine, movedText, displacedLine, displacementText, luminanceLine, sampleText};
 ghost use Rattle.metal.specs.Order.{Precedes};
 
 fn put_bump_row(out: &mut [u8], at: usize, k: u8) -> usize
@@ -29,39 +29,21 @@ fn put_divided_line(out: &mut [u8], at: usize, i: u8) -> usize
     requires { ⌜ i < 8 ⌝ }
     ensures { λ r. ⌜ Wrote (now (out .entry)) at (now (out .exit)) r (dividedLine i) ⌝ }
 {
-    let mut p = put(out, at, b"    float4 ");
-    p = put_coordinate(out, p, i, Coordinate::Divided);
-    p = put(out, p, b" = ");
-    p = put_tested_quotient(
+    put_numbered(
         out,
-        p,
-        b".w != 0.0 ? float4(",
-        true,
+        at,
+        b"    float4 pc# = in.texcoord#.w != 0.0 ? float4(in.texcoord#.xyz / in.texcoord#.w, 1.0) : float4(0.0, 0.0, 0.0, 1.0);\n",
         i,
-        Coordinate::Interpolated,
-    );
-    put(out, p, b", 1.0) : float4(0.0, 0.0, 0.0, 1.0);\n")
+    )
 }
 
-// An entry of stage n's matrix by its texel.
-fn put_product(out: &mut [u8], at: usize, n: u8, entry: &[u8]) -> usize
+// The row of stage n's matrix, and what is done with an entry of it.
+fn put_entry(out: &mut [u8], at: usize, n: u8, entry: &[u8]) -> usize
     requires { ⌜ n < 8 ⌝ }
-    ensures { λ r. ⌜ Wrote (now (out .entry)) at (now (out .exit)) r (bumpRow (2 * n) ⊕ raw (now (entry .entry)) ⊕ texelName n) ⌝ }
+    ensures { λ r. ⌜ Wrote (now (out .entry)) at (now (out .exit)) r (bumpRow (2 * n) ⊕ numbered n (now (entry .entry))) ⌝ }
 {
-    let mut p = put_bump_row(out, at, 2 * n);
-    p = put(out, p, entry);
-    put_texel(out, p, n)
-}
-
-// One coordinate of the displacement by stage n.
-fn put_offset(out: &mut [u8], at: usize, n: u8, first: &[u8], second: &[u8]) -> usize
-    requires { ⌜ n < 8 ⌝ }
-    ensures { λ r. ⌜ Wrote (now (out .entry)) at (now (out .exit)) r (offsetText n (raw (now (first .entry))) (raw (now (second .entry)))) ⌝ }
-{
-    let mut p = put_product(out, at, n, first);
-    p = put(out, p, b".x + ");
-    p = put_product(out, p, n, second);
-    put(out, p, b".y")
+    let p = put_bump_row(out, at, 2 * n);
+    put_numbered(out, p, entry, n)
 }
 
 // A coordinate of stage i moved by stage n's texel.
@@ -72,10 +54,10 @@ fn put_moved(out: &mut [u8], at: usize, i: u8, n: u8, base: Coordinate) -> usize
 {
     let mut p = put_coordinate(out, at, i, base);
     p = put(out, p, b".xy + float2(");
-    p = put_offset(out, p, n, b".x * ", b".z * ");
-    p = put(out, p, b", ");
-    p = put_offset(out, p, n, b".y * ", b".w * ");
-    put(out, p, b")")
+    p = put_entry(out, p, n, b".x * t#.x + ");
+    p = put_entry(out, p, n, b".z * t#.y, ");
+    p = put_entry(out, p, n, b".y * t#.x + ");
+    put_entry(out, p, n, b".w * t#.y)")
 }
 
 // The line that declares the coordinate of stage i displaced by stage n.
@@ -84,9 +66,7 @@ fn put_displaced_line(out: &mut [u8], at: usize, i: u8, n: u8, base: Coordinate)
     requires { ⌜ n < i ⌝ }
     ensures { λ r. ⌜ Wrote (now (out .entry)) at (now (out .exit)) r (displacedLine i n base) ⌝ }
 {
-    let mut p = put(out, at, b"    float4 ");
-    p = put_coordinate(out, p, i, Coordinate::Displaced);
-    p = put(out, p, b" = float4(");
+    let mut p = put_numbered(out, at, b"    float4 bc# = float4(", i);
     p = put_moved(out, p, i, n, base);
     p = put(out, p, b", ");
     p = put_coordinate(out, p, i, base);
@@ -113,8 +93,7 @@ fn put_scaled(out: &mut [u8], at: usize, tex: bool, n: u8) -> usize
         (when tex (texelName n ⊕ lit ".z * " ⊕ bumpRow (2 * n + 1) ⊕ lit ".x + ")) ⌝ }
 {
     if tex {
-        let mut p = put_texel(out, at, n);
-        p = put(out, p, b".z * ");
+        let mut p = put_numbered(out, at, b"t#.z * ", n);
         p = put_bump_row(out, p, 2 * n + 1);
         return put(out, p, b".x + ");
     }
@@ -127,9 +106,7 @@ fn put_luminance_line(out: &mut [u8], at: usize, tex: bool, i: u8, n: u8) -> usi
     requires { ⌜ n < i ⌝ }
     ensures { λ r. ⌜ Wrote (now (out .entry)) at (now (out .exit)) r (luminanceLine tex i n) ⌝ }
 {
-    let mut p = put(out, at, b"    ");
-    p = put_texel(out, p, i);
-    p = put(out, p, b" *= saturate(");
+    let mut p = put_numbered(out, at, b"    t# *= saturate(", i);
     p = put_scaled(out, p, tex, n);
     p = put_bump_row(out, p, 2 * n + 1);
     put(out, p, b".y);\n")

@@ -1,24 +1,18 @@
-//! Lookups: how a stage reads its texture, and the line of its texel.
+//! Lookups: how a stage reads its texture, and the lines of its texel.
 use crate::bits::bit;
-use crate::coordinates::put_coordinate;
-use crate::coordinates::put_tested_quotient;
-use crate::samples::put_compare;
-use crate::samples::put_depth;
-use crate::samples::put_gather;
-use crate::samples::put_plain;
-use combiners::arguments::put_texel;
+use crate::samples::put_compare_line;
+use crate::samples::put_depth_line;
+use crate::samples::put_gather_line;
+use crate::samples::put_plain_line;
+use crate::samples::put_projected_line;
 use metal::Coordinate;
 use metal::Lookup;
 use metal::TextureType;
 use metal::Variant;
-use text::put;
-use text::put_when;
 ghost use Prim.Native.Nat.{_<_};
 ghost use mathlib.Core.Path.{_≡_};
-ghost use Rattle.text.specs.Text.{lit, when, _⊕_};
 ghost use Rattle.text.specs.Buffer.{Wrote};
-ghost use Rattle.combiners.specs.Arguments.{texelName};
-ghost use Rattle.metal.specs.Lookups.{lookupOf, textureTypeOf, coordinateText, gatherText, depthText, compareText, plainText, texelLine, projectedLine, lookupText};
+ghost use Rattle.metal.specs.Lookups.{lookupOf, textureTypeOf, lookupText};
 
 // The first that applies: fetch4, depth fetch, depth compare, plain.
 pub fn lookup_of(v: Variant, i: u8) -> Lookup
@@ -56,107 +50,6 @@ pub fn texture_type_of(v: Variant, i: u8) -> TextureType
         return TextureType::Cube;
     }
     TextureType::Flat
-}
-
-// The line that declares a texel, up to what it reads.
-fn put_texel_start(out: &mut [u8], at: usize, i: u8) -> usize
-    requires { ⌜ i < 8 ⌝ }
-    ensures { λ r. ⌜ Wrote (now (out .entry)) at (now (out .exit)) r (lit "    float4 " ⊕ texelName i ⊕ lit " = ") ⌝ }
-{
-    let mut p = put(out, at, b"    float4 ");
-    p = put_texel(out, p, i);
-    put(out, p, b" = ")
-}
-
-// A texel of depth, with its other components filled where the depth is in red alone.
-fn put_depth_texel(
-    out: &mut [u8],
-    at: usize,
-    red: bool,
-    lod: bool,
-    projected: bool,
-    i: u8,
-    c: Coordinate,
-) -> usize
-    requires { ⌜ i < 8 ⌝ }
-    ensures { λ r. ⌜ Wrote (now (out .entry)) at (now (out .exit)) r
-        (lit "float4(" ⊕ depthText lod projected i (coordinateText i c) ⊕ when red (lit ", 0.0, 0.0, 1.0") ⊕ lit ")") ⌝ }
-{
-    let mut p = put(out, at, b"float4(");
-    p = put_depth(out, p, lod, projected, i, c);
-    p = put_when(out, p, red, b", 0.0, 0.0, 1.0");
-    put(out, p, b")")
-}
-
-fn put_gather_line(
-    out: &mut [u8],
-    at: usize,
-    alpha: bool,
-    projected: bool,
-    i: u8,
-    c: Coordinate,
-) -> usize
-    requires { ⌜ i < 8 ⌝ }
-    ensures { λ r. ⌜ Wrote (now (out .entry)) at (now (out .exit)) r (texelLine i (gatherText alpha projected i (coordinateText i c))) ⌝ }
-{
-    let mut p = put_texel_start(out, at, i);
-    p = put_gather(out, p, alpha, projected, i, c);
-    put(out, p, b";\n")
-}
-
-fn put_depth_line(
-    out: &mut [u8],
-    at: usize,
-    red: bool,
-    lod: bool,
-    projected: bool,
-    i: u8,
-    c: Coordinate,
-) -> usize
-    requires { ⌜ i < 8 ⌝ }
-    ensures { λ r. ⌜ Wrote (now (out .entry)) at (now (out .exit)) r (lookupText (Lookup.DepthFetch red) lod projected i c) ⌝ }
-{
-    let mut p = put_texel_start(out, at, i);
-    p = put_depth_texel(out, p, red, lod, projected, i, c);
-    put(out, p, b";\n")
-}
-
-fn put_compare_line(out: &mut [u8], at: usize, lod: bool, i: u8, c: Coordinate) -> usize
-    requires { ⌜ i < 8 ⌝ }
-    ensures { λ r. ⌜ Wrote (now (out .entry)) at (now (out .exit)) r (texelLine i (compareText lod i (coordinateText i c))) ⌝ }
-{
-    let mut p = put_texel_start(out, at, i);
-    p = put_compare(out, p, lod, i, c);
-    put(out, p, b";\n")
-}
-
-fn put_plain_line(
-    out: &mut [u8],
-    at: usize,
-    three: bool,
-    lod: bool,
-    projected: bool,
-    i: u8,
-    c: Coordinate,
-) -> usize
-    requires { ⌜ i < 8 ⌝ }
-    ensures { λ r. ⌜ Wrote (now (out .entry)) at (now (out .exit)) r (lookupText (Lookup.Plain three) lod projected i c) ⌝ }
-{
-    let mut p = put_texel_start(out, at, i);
-    p = put_plain(out, p, lod, three, projected, i, c);
-    put(out, p, b";\n")
-}
-
-// The line that declares a projected coordinate.
-fn put_projected_line(out: &mut [u8], at: usize, i: u8, c: Coordinate) -> usize
-    requires { ⌜ i < 8 ⌝ }
-    ensures { λ r. ⌜ Wrote (now (out .entry)) at (now (out .exit)) r (projectedLine i (coordinateText i c)) ⌝ }
-{
-    let mut p = put(out, at, b"    float3 ");
-    p = put_coordinate(out, p, i, Coordinate::Projected);
-    p = put(out, p, b" = ");
-    p = put_tested_quotient(out, p, b".w != 0.0 ? ", true, i, c);
-    put(out, p, b" : float3(0.0);\n")
 }
 
 fn put_comparison_lines(

@@ -1,34 +1,24 @@
-//! What a lookup reads: a texture sampled or gathered at a coordinate.
+//! The lines of lookups: a texture sampled or gathered at a coordinate.
 use crate::coordinates::put_coordinate;
-use crate::coordinates::put_sampler_name;
-use crate::coordinates::put_texture_name;
+use crate::coordinates::put_tested_quotient;
 use crate::coordinates::put_uv;
 use metal::Coordinate;
+use metal::Lookup;
 use text::put;
-use text::put_digit;
+use text::put_either;
+use text::put_numbered;
 use text::put_when;
 ghost use Prim.Native.Nat.{_<_};
-ghost use Rattle.text.specs.Text.{raw, lit, when, _⊕_};
+ghost use Rattle.text.specs.Text.{lit, when, _⊕_};
 ghost use Rattle.text.specs.Buffer.{Wrote};
-ghost use Rattle.metal.specs.Lookups.{textureName, samplerName, coordinateText, lodRow, levelText, halfTexelText, gatherText, depthText, compareText, plainText};
-
-fn put_lod_row(out: &mut [u8], at: usize, i: u8) -> usize
-    requires { ⌜ i < 8 ⌝ }
-    ensures { λ r. ⌜ Wrote (now (out .entry)) at (now (out .exit)) r (lodRow i) ⌝ }
-{
-    let mut p = put(out, at, b"lod_bias[");
-    p = put_digit(out, p, i);
-    put(out, p, b"]")
-}
+ghost use Rattle.metal.specs.Lookups.{coordinateText, lodRow, levelText, gatherText, compareText, texelLine, projectedLine, lookupText};
 
 fn put_level(out: &mut [u8], at: usize, lod: bool, i: u8) -> usize
     requires { ⌜ i < 8 ⌝ }
     ensures { λ r. ⌜ Wrote (now (out .entry)) at (now (out .exit)) r (levelText lod i) ⌝ }
 {
     if lod {
-        let mut p = put(out, at, b"level(max(");
-        p = put_lod_row(out, p, i);
-        put(out, p, b".w, 0.0))")
+        put_numbered(out, at, b"level(max(lod_bias[#].w, 0.0))", i)
     } else {
         put(out, at, b"level(0)")
     }
@@ -39,35 +29,12 @@ fn put_bias(out: &mut [u8], at: usize, lod: bool, i: u8) -> usize
     ensures { λ r. ⌜ Wrote (now (out .entry)) at (now (out .exit)) r (when lod (lit ", bias(" ⊕ lodRow i ⊕ lit ".x)")) ⌝ }
 {
     if lod {
-        let mut p = put(out, at, b", bias(");
-        p = put_lod_row(out, p, i);
-        return put(out, p, b".x)");
+        return put_numbered(out, at, b", bias(lod_bias[#].x)", i);
     }
     at
 }
 
-fn put_half_texel(out: &mut [u8], at: usize, i: u8) -> usize
-    requires { ⌜ i < 8 ⌝ }
-    ensures { λ r. ⌜ Wrote (now (out .entry)) at (now (out .exit)) r (halfTexelText i) ⌝ }
-{
-    let mut p = put(out, at, b"0.5 / float2(");
-    p = put_texture_name(out, p, i);
-    p = put(out, p, b".get_width(), ");
-    p = put_texture_name(out, p, i);
-    put(out, p, b".get_height())")
-}
-
-// The texture, a method of it and the sampler.
-fn put_call(out: &mut [u8], at: usize, i: u8, method: &[u8]) -> usize
-    requires { ⌜ i < 8 ⌝ }
-    ensures { λ r. ⌜ Wrote (now (out .entry)) at (now (out .exit)) r (textureName i ⊕ raw (now (method .entry)) ⊕ samplerName i) ⌝ }
-{
-    let mut p = put_texture_name(out, at, i);
-    p = put(out, p, method);
-    put_sampler_name(out, p, i)
-}
-
-pub fn put_gather(
+pub fn put_gather_line(
     out: &mut [u8],
     at: usize,
     alpha: bool,
@@ -76,76 +43,82 @@ pub fn put_gather(
     c: Coordinate,
 ) -> usize
     requires { ⌜ i < 8 ⌝ }
-    ensures { λ r. ⌜ Wrote (now (out .entry)) at (now (out .exit)) r (gatherText alpha projected i (coordinateText i c)) ⌝ }
+    ensures { λ r. ⌜ Wrote (now (out .entry)) at (now (out .exit)) r (texelLine i (gatherText alpha projected i (coordinateText i c))) ⌝ }
 {
-    let mut p = put_call(out, at, i, b".gather(");
-    p = put(out, p, b", (");
+    let mut p = put_numbered(out, at, b"    float4 t# = s#.gather(samp#, (", i);
     p = put_uv(out, p, projected, false, i, c);
-    p = put(out, p, b") + ");
-    p = put_half_texel(out, p, i);
+    p = put_numbered(
+        out,
+        p,
+        b") + 0.5 / float2(s#.get_width(), s#.get_height())",
+        i,
+    );
     p = put_when(out, p, alpha, b", int2(0), component::w");
-    put(out, p, b").zxyw")
+    put(out, p, b").zxyw;\n")
 }
 
-pub fn put_depth(
+// The other components of the texel are filled where the depth is in red alone.
+pub fn put_depth_line(
     out: &mut [u8],
     at: usize,
+    red: bool,
     lod: bool,
     projected: bool,
     i: u8,
     c: Coordinate,
 ) -> usize
     requires { ⌜ i < 8 ⌝ }
-    ensures { λ r. ⌜ Wrote (now (out .entry)) at (now (out .exit)) r (depthText lod projected i (coordinateText i c)) ⌝ }
+    ensures { λ r. ⌜ Wrote (now (out .entry)) at (now (out .exit)) r (lookupText (Lookup.DepthFetch red) lod projected i c) ⌝ }
 {
-    let mut p = put_call(out, at, i, b".sample(");
-    p = put(out, p, b", ");
+    let mut p = put_numbered(out, at, b"    float4 t# = float4(s#.sample(samp#, ", i);
     p = put_uv(out, p, projected, false, i, c);
     p = put(out, p, b", ");
     p = put_level(out, p, lod, i);
-    put(out, p, b")")
+    put_either(out, p, red, b"), 0.0, 0.0, 1.0);\n", b"));\n")
 }
 
-// A coordinate, and the depth to compare with.
-fn put_reference(out: &mut [u8], at: usize, i: u8, c: Coordinate) -> usize
+pub fn put_compare_line(out: &mut [u8], at: usize, lod: bool, i: u8, c: Coordinate) -> usize
     requires { ⌜ i < 8 ⌝ }
-    ensures { λ r. ⌜ Wrote (now (out .entry)) at (now (out .exit)) r
-        (coordinateText i c ⊕ lit ".xy, saturate(" ⊕ coordinateText i c ⊕ lit ".z)") ⌝ }
+    ensures { λ r. ⌜ Wrote (now (out .entry)) at (now (out .exit)) r (texelLine i (compareText lod i (coordinateText i c))) ⌝ }
 {
-    let mut p = put_coordinate(out, at, i, c);
+    let mut p = put_numbered(
+        out,
+        at,
+        b"    float4 t# = float4(s#.sample_compare(samp#, ",
+        i,
+    );
+    p = put_coordinate(out, p, i, c);
     p = put(out, p, b".xy, saturate(");
     p = put_coordinate(out, p, i, c);
-    put(out, p, b".z)")
-}
-
-pub fn put_compare(out: &mut [u8], at: usize, lod: bool, i: u8, c: Coordinate) -> usize
-    requires { ⌜ i < 8 ⌝ }
-    ensures { λ r. ⌜ Wrote (now (out .entry)) at (now (out .exit)) r (compareText lod i (coordinateText i c)) ⌝ }
-{
-    let mut p = put(out, at, b"float4(");
-    p = put_call(out, p, i, b".sample_compare(");
-    p = put(out, p, b", ");
-    p = put_reference(out, p, i, c);
-    p = put(out, p, b", ");
+    p = put(out, p, b".z), ");
     p = put_level(out, p, lod, i);
-    put(out, p, b"))")
+    put(out, p, b"));\n")
 }
 
-pub fn put_plain(
+pub fn put_plain_line(
     out: &mut [u8],
     at: usize,
-    lod: bool,
     three: bool,
+    lod: bool,
     projected: bool,
     i: u8,
     c: Coordinate,
 ) -> usize
     requires { ⌜ i < 8 ⌝ }
-    ensures { λ r. ⌜ Wrote (now (out .entry)) at (now (out .exit)) r (plainText lod three projected i (coordinateText i c)) ⌝ }
+    ensures { λ r. ⌜ Wrote (now (out .entry)) at (now (out .exit)) r (lookupText (Lookup.Plain three) lod projected i c) ⌝ }
 {
-    let mut p = put_call(out, at, i, b".sample(");
-    p = put(out, p, b", ");
+    let mut p = put_numbered(out, at, b"    float4 t# = s#.sample(samp#, ", i);
     p = put_uv(out, p, projected, three, i, c);
     p = put_bias(out, p, lod, i);
-    put(out, p, b")")
+    put(out, p, b");\n")
+}
+
+// The line that declares a projected coordinate.
+pub fn put_projected_line(out: &mut [u8], at: usize, i: u8, c: Coordinate) -> usize
+    requires { ⌜ i < 8 ⌝ }
+    ensures { λ r. ⌜ Wrote (now (out .entry)) at (now (out .exit)) r (projectedLine i (coordinateText i c)) ⌝ }
+{
+    let mut p = put_numbered(out, at, b"    float3 proj# = ", i);
+    p = put_tested_quotient(out, p, true, i, c);
+    put(out, p, b" : float3(0.0);\n")
 }

@@ -1,15 +1,16 @@
 -- The laws of writing: one text behind another is the two joined; a text that fits is written whole; which of two texts; a text's length.
-use Prim.Native.Nat.{ℕ, suc, _+_, _-_, _^_, _<_, _≤_, min}
+use Prim.Native.Nat.{ℕ, zero, suc, _+_, _-_, _^_, _<_, _≤_, min}
 use mathlib.Core.Bool.{Bool, true, false, cond}
 use mathlib.Core.Path.{_≡_, refl, ap, sym, _∙_}
 use mathlib.Core.List.{List, [], _∷_, _++_}
 use native.Mathlib.Omega.{arith, min-cases}
 use native.Mathlib.Nat.{add-zero, zero-add}
 use borrow.Author.Tests.{ne-eqb, le-leb, lt-leb, le-ltb, lt-ltb}
-use lib.Dec.{eqb}
-use lib.ListN.{length, take, drop, set, length-set, length-append, take-append-drop}
+use lib.Dec.{eqb, eqb→eq}
+use lib.ListN.{length, take, drop, getD, set, length-set, length-append, take-append-drop}
 use lib.Seq.{sets, sets-eq, length-sets, length-take-le, set-out}
 use Rattle.text.specs.Text.{Text, raw, _⊕_, pick, flat, size}
+use Rattle.text.specs.Marks.{filled, marked}
 use Rattle.text.specs.Buffer.{Wrote}
 
 pub flat-length : (t : Text) → length (flat t) ≡ size t
@@ -44,6 +45,24 @@ seam s t l i h =
     ∙ sym (sets-out t (sets l i s) (i + length s) (simp length-sets (omega arith)))
     ∙ sym (sets-append s t l i))
     (λ k e. rw e (sym (sets-append s t l i)))
+
+-- a text filled, byte by byte
+pub length-marked : (m : ℕ) (s : List ℕ) → length (marked m s) ≡ length s
+length-marked m [] = refl
+length-marked m (b ∷ s) = ap suc (length-marked m s)
+
+pub getD-marked : (m : ℕ) (s : List ℕ) (i : ℕ) → i < length s → getD (marked m s) i 0 ≡ filled m (getD s i 0)
+getD-marked m (b ∷ s) zero h = refl
+getD-marked m (b ∷ s) (suc i) h = getD-marked m s i (omega arith)
+
+-- a mark may stand for itself
+unmarked-byte : (b : ℕ) (t : Bool) → eqb b 35 ≡ t → filled 35 b ≡ b
+unmarked-byte b true e = rw e (sym (eqb→eq b 35 (rw e tt)))
+unmarked-byte b false e = rw e
+
+pub unmarked : (s : List ℕ) → marked 35 s ≡ s
+unmarked [] = refl
+unmarked (b ∷ s) = rw (unmarked-byte b _ refl, unmarked s)
 
 -- no bytes
 pub nothing : (l : List ℕ) (at : ℕ) → length l < 2 ^ 63 → at < 2 ^ 64 → Wrote l at l at (raw [])

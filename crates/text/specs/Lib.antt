@@ -1,3 +1,4 @@
 pub mod Text
 pub mod Format
+pub mod Marks
 pub mod Buffer

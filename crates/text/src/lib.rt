@@ -7,43 +7,68 @@ ghost use mathlib.Core.Path.{_≡_};
 ghost use lib.ListN.{length, take};
 ghost use lib.Seq.{sets};
 ghost use Rattle.text.specs.Text.{raw, pick, when, digit, decimal};
+ghost use Rattle.text.specs.Marks.{filled, marked, numbered};
 ghost use Rattle.text.specs.Buffer.{Wrote};
 
-// The first n bytes of s, into out from at on.
-fn copy(out: &mut [u8], at: usize, s: &[u8], n: usize)
+// A byte of a text, or the mark where it is `#`.
+fn filled(mark: u8, b: u8) -> u8
+    ensures { λ r. ⌜ r ≡ filled mark b ⌝ }
+{
+    if b == b'#' {
+        return mark;
+    }
+    b
+}
+
+// The first n bytes of s, filled, into out from at on.
+fn copy(out: &mut [u8], at: usize, s: &[u8], mark: u8, n: usize)
     requires { ⌜ (at + n ≤ length (now out)) × (n ≤ length (now s)) ⌝ }
-    ensures { λ _. ⌜ now (out .exit) ≡ sets (now (out .entry)) at (take n (now (s .entry))) ⌝ }
+    ensures { λ _. ⌜ now (out .exit) ≡ sets (now (out .entry)) at (take n (marked mark (now (s .entry)))) ⌝ }
 {
     let mut i = 0;
     while i < n {
-        out[at + i] = s[i];
+        out[at + i] = filled(mark, s[i]);
         i += 1;
     }
 }
 
-// The bytes of s that fall inside out, from at on.
-fn lay(out: &mut [u8], at: usize, s: &[u8])
-    ensures { λ _. ⌜ now (out .exit) ≡ sets (now (out .entry)) at (now (s .entry)) ⌝ }
+// The bytes of s, filled, that fall inside out, from at on.
+fn lay(out: &mut [u8], at: usize, s: &[u8], mark: u8)
+    ensures { λ _. ⌜ now (out .exit) ≡ sets (now (out .entry)) at (marked mark (now (s .entry))) ⌝ }
 {
     if out.len() <= at {
         return;
     }
     let room = out.len() - at;
     if s.len() <= room {
-        copy(out, at, s, s.len());
+        copy(out, at, s, mark, s.len());
     } else {
-        copy(out, at, s, room);
+        copy(out, at, s, mark, room);
     }
+}
+
+fn put_marked(out: &mut [u8], at: usize, s: &[u8], mark: u8) -> usize
+    ensures { λ r. ⌜ Wrote (now (out .entry)) at (now (out .exit)) r (raw (marked mark (now (s .entry)))) ⌝ }
+{
+    lay(out, at, s, mark);
+    if s.len() <= 18446744073709551615 - at {
+        return at + s.len();
+    }
+    18446744073709551615
 }
 
 pub fn put(out: &mut [u8], at: usize, s: &[u8]) -> usize
     ensures { λ r. ⌜ Wrote (now (out .entry)) at (now (out .exit)) r (raw (now (s .entry))) ⌝ }
 {
-    lay(out, at, s);
-    if s.len() <= 18446744073709551615 - at {
-        return at + s.len();
-    }
-    18446744073709551615
+    put_marked(out, at, s, b'#')
+}
+
+// The bytes of s, with the digit n for each `#`.
+pub fn put_numbered(out: &mut [u8], at: usize, s: &[u8], n: u8) -> usize
+    requires { ⌜ n < 10 ⌝ }
+    ensures { λ r. ⌜ Wrote (now (out .entry)) at (now (out .exit)) r (numbered n (now (s .entry))) ⌝ }
+{
+    put_marked(out, at, s, 48 + n)
 }
 
 // One of two.

@@ -7,33 +7,36 @@ use native.Mathlib.Numerals.{add-one}
 use native.Mathlib.Omega.{arith}
 use lib.ListN.{length, take, drop, getD, set, drop-of-length-le, length-set}
 use lib.Seq.{sets, drop-cons, getD-take, length-take-le}
+use Rattle.text.specs.Marks.{filled, marked}
+use Rattle.text.proofs.Laws.{length-marked, getD-marked}
 use Rattle.text.proofs.copy.Statement.{statement}
 use Rattle.text.proofs.copy.Tie as tie
 
 abbrev Inv-loop : tie.InvT-loop
-Inv-loop out₀ at s n i₀ out i =
+Inv-loop out₀ at s m n i₀ out i =
     (i ≤ n)
     × (at + n ≤ length out₀)
     × (n ≤ length s)
     × (length out ≡ length out₀)
-    × (sets out (at + i) (drop i (take n s)) ≡ sets out₀ at (take n s))
+    × (sets out (at + i) (drop i (take n (marked m s))) ≡ sets out₀ at (take n (marked m s)))
 
 abbrev μ-loop : tie.MeasureT-loop
-μ-loop out₀ at s n i₀ out i = n - i
+μ-loop out₀ at s m n i₀ out i = n - i
 
 turn : (t l : List ℕ) (a i : ℕ) → i < length t → sets (set l (a + i) (getD t i 0)) (a + (i + 1)) (drop (i + 1) t) ≡ sets l (a + i) (drop i t)
 turn t l a i h = rw (add-one i, drop-cons t i 0 h, add-suc a i)
 
-turned : (s l : List ℕ) (a i n : ℕ) → i < n → n ≤ length s
-    → sets (set l (a + i) (getD s i 0)) (a + (i + 1)) (drop (i + 1) (take n s)) ≡ sets l (a + i) (drop i (take n s))
-turned s l a i n h k =
-    rw (sym (getD-take n s i 0 h)) (turn (take n s) l a i (rw (length-take-le n s k) h))
+turned : (s l : List ℕ) (m a i n : ℕ) → i < n → n ≤ length s
+    → sets (set l (a + i) (filled m (getD s i 0))) (a + (i + 1)) (drop (i + 1) (take n (marked m s))) ≡ sets l (a + i) (drop i (take n (marked m s)))
+turned s l m a i n h k =
+    rw (sym (getD-marked m s i (omega arith)), sym (getD-take n (marked m s) i 0 h))
+    (turn (take n (marked m s)) l a i (rw (length-take-le n (marked m s) (rw (length-marked m s) k)) h))
 
 loop-holds : tie.Need-loop-holds Inv-loop μ-loop
-loop-holds c = (omega arith, c .pre .0, c .pre .1, refl, rw add-zero)
+loop-holds c = (omega arith, c .before .before .pre .0, c .before .before .pre .1, refl, rw add-zero)
 
-shared-slice-read-out : tie.Need-shared-slice-read-out Inv-loop μ-loop
-shared-slice-read-out c = omega arith
+shared-slice-read-filled : tie.Need-shared-slice-read-filled Inv-loop μ-loop
+shared-slice-read-filled c = omega arith
 
 add-out : tie.Need-add-out Inv-loop μ-loop
 add-out c = omega arith
@@ -49,18 +52,19 @@ loop-less c = omega arith
 
 loop-again : tie.Need-loop-again Inv-loop μ-loop
 loop-again c =
-    let b = c .before .before in
-    let v = b .loop .inv in
-    (omega arith, v .1, v .2, simp length-set (omega arith), turned _ _ _ _ _ (c .before .loop-test .taken) (v .2) ∙ v .4)
+    let a = c .before .before .before .before .before .before .args in
+    let l = c .before .before .before .loop in
+    let v = l .inv in
+    (omega arith, v .1, v .2, simp length-set (omega arith), rw (c .filled .ensures) (turned (a .s .now) (l .out) (a .mark) (a .at) _ _ (c .before .before .loop-test .taken) (v .2) ∙ v .4))
 
 same-length : tie.Need-same-length Inv-loop μ-loop
 same-length c = c .before .loop .inv .3
 
 returns : tie.Need-returns Inv-loop μ-loop
 returns c =
-    let a = c .before .before .args in
+    let a = c .before .before .before .before .args in
     let v = c .before .loop .inv in
-    let e : drop (c .before .loop .i) (take (a .n) (a .s .now)) ≡ [] = drop-of-length-le _ {i = c .before .loop .i} (rw (length-take-le (a .n) (a .s .now) (v .2)) (c .loop-test .left)) in
+    let e : drop (c .before .loop .i) (take (a .n) (marked (a .mark) (a .s .now))) ≡ [] = drop-of-length-le _ {i = c .before .loop .i} (rw (length-take-le (a .n) (marked (a .mark) (a .s .now)) (rw (length-marked (a .mark) (a .s .now)) (v .2))) (c .loop-test .left)) in
     rw e at (v .4)
 
 pub copy-spec : {M : Type 1} → statement M
@@ -70,7 +74,8 @@ copy-spec =
     Inv-loop
     μ-loop
     loop-holds
-    shared-slice-read-out
+    shared-slice-read-filled
+    (λ c κs. tt)
     add-out
     slice-write-out
     add-i

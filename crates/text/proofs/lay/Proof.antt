@@ -4,23 +4,25 @@ use native.Mathlib.Omega.{arith}
 use borrow.Author.Needs.{needs}
 use lib.ListN.{length, take}
 use lib.Seq.{take-all}
-use Rattle.text.proofs.Laws.{sets-out, sets-take}
+use Rattle.text.specs.Marks.{marked}
+use Rattle.text.proofs.Laws.{sets-out, sets-take, length-marked}
 use Rattle.text.proofs.lay.Statement.{statement}
 use Rattle.text.proofs.lay.Tie as tie
 
 returns : tie.Need-returns
-returns c = sym (sets-out (c .before .before .before .args .s .now) _ _ (c .if1 .taken))
+returns c = let a = c .before .before .before .args in sym (sets-out (marked (a .mark) (a .s .now)) _ _ (c .if1 .taken))
 
 returns-2 : tie.Need-returns-2
 returns-2 c =
-    let s = c .before .before .before .before .before .before .before .before .args .s .now in
-    let e : take (length s) s ≡ s = take-all (length s) s (omega arith) in
+    let a = c .before .before .before .before .before .before .before .before .args in
+    let s = marked (a .mark) (a .s .now) in
+    let e : take (length (a .s .now)) s ≡ s = take-all (length (a .s .now)) s (rw (length-marked (a .mark) (a .s .now)) (omega arith)) in
     c .before .before .copy .ensures ∙ rw e
 
 returns-3 : tie.Need-returns-3
 returns-3 c =
     let a = c .before .before .before .before .before .before .before .before .args in
-    c .before .before .copy2 .ensures ∙ sets-take (a .s .now) (a .out .now) (a .at) (length (a .out .now) - a .at) (omega arith) (omega arith)
+    c .before .before .copy2 .ensures ∙ sets-take (marked (a .mark) (a .s .now)) (a .out .now) (a .at) (length (a .out .now) - a .at) (rw (length-marked (a .mark) (a .s .now)) (omega arith)) (omega arith)
 
 pub lay-spec : {M : Type 1} → statement M
 lay-spec =

@@ -1,7 +1,7 @@
 use mathlib.Core.Path.{refl}
-use Rattle.text.proofs.Laws.{texts, _⨾_, keeps}
 use native.Mathlib.Omega.{arith}
-use borrow.Author.Needs.{needs}
+use Rattle.text.proofs.Laws.{_⨾_, keeps, same}
+use Rattle.text.proofs.Laws.{pick-true, pick-false}
 use Rattle.combiners.specs.Arguments.{argText}
 use Rattle.combiners.proofs.arguments.put_arg.Statement.{statement}
 use Rattle.combiners.proofs.arguments.put_arg.Tie as tie
@@ -13,11 +13,11 @@ put-arg-spec =
     (tie.spec
     (λ c. refl)
     (λ c κs. tt)
-    (λ c κs. search needs)
+    (λ c κs. c .before .before .before .before .before .before .before .before .pre)
     (λ c. refl)
     (λ c κs. tt)
-    (λ c κs. search needs)
-    (λ c. search needs)
-    (λ c. search (texts, c .before .before .before .before .before .before .before .before .before .before .before .before .before .before .if1 .taken, c .before .before .before .before .before .before .before .before .before .before .before .put .ensures ⨾ c .before .before .before .before .before .before .before .put-replicated .ensures ⨾ c .before .before .put2 .ensures))
-    (λ c. search needs)
-    (λ c. search (texts, c .before .before .before .before .if1 .left, c .before .before .put-replicated2 .ensures)))
+    (λ c κs. c .before .before .before .pre)
+    (λ c. keeps (c .before .before .before .before .before .before .before .before .before .before .before .put .ensures ⨾ c .before .before .before .before .before .before .before .put-replicated .ensures ⨾ c .before .before .put2 .ensures))
+    (λ c. pick-true (c .before .before .before .before .before .before .before .before .before .before .before .before .before .before .if1 .taken) (c .before .before .before .before .before .before .before .before .before .before .before .put .ensures ⨾ c .before .before .before .before .before .before .before .put-replicated .ensures ⨾ c .before .before .put2 .ensures))
+    (λ c. keeps (c .before .before .put-replicated2 .ensures))
+    (λ c. pick-false (c .before .before .before .before .if1 .left) (c .before .before .put-replicated2 .ensures)))

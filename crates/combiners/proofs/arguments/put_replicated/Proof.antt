@@ -1,7 +1,6 @@
 use mathlib.Core.Path.{refl}
-use Rattle.text.proofs.Laws.{texts, _⨾_, keeps}
 use native.Mathlib.Omega.{arith}
-use borrow.Author.Needs.{needs}
+use Rattle.text.proofs.Laws.{_⨾_, keeps, same}
 use Rattle.combiners.specs.Arguments.{replicated}
 use Rattle.combiners.proofs.arguments.put_replicated.Statement.{statement}
 use Rattle.combiners.proofs.arguments.put_replicated.Tie as tie
@@ -11,8 +10,8 @@ unfolding replicated
 put-replicated-spec =
     tie.close
     (tie.spec
-    (λ c κs. search needs)
+    (λ c κs. c .before .before .pre)
     (λ c. refl)
     (λ c κs. tt)
-    (λ c. search needs)
+    (λ c. keeps (c .before .before .before .before .before .before .before .put-source .ensures ⨾ c .before .before .put-when .ensures))
     (λ c. c .before .before .before .before .before .before .before .put-source .ensures ⨾ c .before .before .put-when .ensures))

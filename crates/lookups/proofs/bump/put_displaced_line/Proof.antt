@@ -1,34 +1,21 @@
-use Rattle.text.proofs.Laws.{_⨾_}
 use mathlib.Core.Path.{refl}
-use borrow.Author.Needs.{needs}
-use Rattle.metal.specs.Lookups.{displacedLine}
+use native.Mathlib.Omega.{arith}
+use Rattle.text.proofs.Laws.{_⨾_, keeps, same}
+use Rattle.lookups.proofs.Lines.{displaces}
 use Rattle.lookups.proofs.bump.put_displaced_line.Statement.{statement}
 use Rattle.lookups.proofs.bump.put_displaced_line.Tie as tie
 
 pub put-displaced-line-spec : {M : Type 1} → statement M
-unfolding displacedLine
 put-displaced-line-spec =
     tie.close
     (tie.spec
     (λ c. refl)
-    (λ c κs. tt)
-    (λ c κs. search needs)
+    (λ c κs. omega (arith, c .before .before .before .pre .0, c .before .before .before .pre .1))
+    (λ c κs. c .before .before .before .before .before .before .before .pre)
     (λ c. refl)
     (λ c κs. tt)
-    (λ c κs. search needs)
+    (λ c κs. c .before .before .before .before .before .before .before .before .before .before .before .before .before .before .before .before .pre .0)
     (λ c. refl)
     (λ c κs. tt)
-    (λ c κs. search needs)
-    (λ c. refl)
-    (λ c κs. tt)
-    (λ c. search needs)
-    (λ c.
-    let c₇ = c .before .before in
-    let c₆ = c₇ .before .before .before .before .before in
-    let c₅ = c₆ .before .before .before .before in
-    let c₄ = c₅ .before .before .before .before .before in
-    let c₃ = c₄ .before .before .before .before in
-    let c₂ = c₃ .before .before .before .before .before in
-    let c₁ = c₂ .before .before .before .before in
-    c₁ .put .ensures ⨾ c₂ .put-coordinate .ensures ⨾ c₃ .put2 .ensures ⨾ c₄ .put-moved .ensures ⨾ c₅ .put3 .ensures ⨾ c₆ .put-coordinate2 .ensures
-    ⨾ c₇ .put4 .ensures))
+    (λ c. keeps (c .before .before .before .before .before .before .before .before .before .before .before .before .before .before .before .before .before .before .before .before .put-numbered .ensures ⨾ c .before .before .before .before .before .before .before .before .before .before .before .before .before .before .before .before .put-moved .ensures ⨾ c .before .before .before .before .before .before .before .before .before .before .before .put .ensures ⨾ c .before .before .before .before .before .before .before .put-coordinate .ensures ⨾ c .before .before .put2 .ensures))
+    (λ c. let a = c .before .before .before .before .before .before .before .before .before .before .before .before .before .before .before .before .before .before .before .before .before .before .before .before .args in same (displaces (a .i) (a .n) (a .base)) (c .before .before .before .before .before .before .before .before .before .before .before .before .before .before .before .before .before .before .before .before .put-numbered .ensures ⨾ c .before .before .before .before .before .before .before .before .before .before .before .before .before .before .before .before .put-moved .ensures ⨾ c .before .before .before .before .before .before .before .before .before .before .before .put .ensures ⨾ c .before .before .before .before .before .before .before .put-coordinate .ensures ⨾ c .before .before .put2 .ensures)))

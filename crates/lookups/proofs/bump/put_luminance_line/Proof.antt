@@ -1,32 +1,21 @@
-use Rattle.text.proofs.Laws.{_⨾_}
 use mathlib.Core.Path.{refl}
-use borrow.Author.Needs.{needs}
-use Rattle.metal.specs.Lookups.{luminanceLine}
+use native.Mathlib.Omega.{arith}
+use Rattle.text.proofs.Laws.{_⨾_, keeps, same}
+use Rattle.lookups.proofs.Lines.{lights}
 use Rattle.lookups.proofs.bump.put_luminance_line.Statement.{statement}
 use Rattle.lookups.proofs.bump.put_luminance_line.Tie as tie
 
 pub put-luminance-line-spec : {M : Type 1} → statement M
-unfolding luminanceLine
 put-luminance-line-spec =
     tie.close
     (tie.spec
     (λ c. refl)
+    (λ c κs. omega (arith, c .before .before .before .pre .0, c .before .before .before .pre .1))
+    (λ c κs. omega (arith, c .before .before .before .before .before .before .before .pre .0, c .before .before .before .before .before .before .before .pre .1))
+    (λ c. omega (arith))
+    (λ c. omega (arith))
     (λ c κs. tt)
-    (λ c κs. search needs)
     (λ c. refl)
     (λ c κs. tt)
-    (λ c κs. search needs)
-    (λ c. search needs)
-    (λ c. search needs)
-    (λ c κs. search needs)
-    (λ c. refl)
-    (λ c κs. tt)
-    (λ c. search needs)
-    (λ c.
-    let c₆ = c .before .before in
-    let c₅ = c₆ .before .before .before .before .before in
-    let c₄ = c₅ .before .before .before .before in
-    let c₃ = c₄ .before .before .before .before in
-    let c₂ = c₃ .before .before .before .before .before in
-    let c₁ = c₂ .before .before .before .before in
-    c₁ .put .ensures ⨾ c₂ .put-texel .ensures ⨾ c₃ .put2 .ensures ⨾ c₄ .put-scaled .ensures ⨾ c₅ .put-bump-row .ensures ⨾ c₆ .put3 .ensures))
+    (λ c. keeps (c .before .before .before .before .before .before .before .before .before .before .before .before .before .before .before .put-numbered .ensures ⨾ c .before .before .before .before .before .before .before .before .before .before .before .put-scaled .ensures ⨾ c .before .before .before .before .before .before .before .put-bump-row .ensures ⨾ c .before .before .put .ensures))
+    (λ c. let a = c .before .before .before .before .before .before .before .before .before .before .before .before .before .before .before .before .before .before .before .args in same (lights (a .tex) (a .i) (a .n)) (c .before .before .before .before .before .before .before .before .before .before .before .before .before .before .before .put-numbered .ensures ⨾ c .before .before .before .before .before .before .before .before .before .before .before .put-scaled .ensures ⨾ c .before .before .before .before .before .before .before .put-bump-row .ensures ⨾ c .before .before .put .ensures)))

@@ -1,34 +1,25 @@
-use Rattle.text.proofs.Laws.{_⨾_}
 use mathlib.Core.Path.{refl}
-use borrow.Author.Needs.{needs}
-use Rattle.metal.specs.Lookups.{movedText}
+use native.Mathlib.Omega.{arith}
+use Rattle.text.proofs.Laws.{_⨾_, keeps, same}
+use Rattle.metal.specs.Lookups.{coordinateText}
+use Rattle.lookups.proofs.Lines.{moves}
 use Rattle.lookups.proofs.bump.put_moved.Statement.{statement}
 use Rattle.lookups.proofs.bump.put_moved.Tie as tie
 
 pub put-moved-spec : {M : Type 1} → statement M
-unfolding movedText
 put-moved-spec =
     tie.close
     (tie.spec
-    (λ c κs. search needs)
+    (λ c κs. c .before .before .pre .0)
     (λ c. refl)
     (λ c κs. tt)
     (λ c. refl)
+    (λ c κs. omega (arith, c .before .before .before .before .before .before .before .before .before .before .before .before .pre .0, c .before .before .before .before .before .before .before .before .before .before .before .before .pre .1))
     (λ c. refl)
-    (λ c κs. search needs)
+    (λ c κs. omega (arith, c .before .before .before .before .before .before .before .before .before .before .before .before .before .before .before .before .before .pre .0, c .before .before .before .before .before .before .before .before .before .before .before .before .before .before .before .before .before .pre .1))
     (λ c. refl)
-    (λ c κs. tt)
+    (λ c κs. omega (arith, c .before .before .before .before .before .before .before .before .before .before .before .before .before .before .before .before .before .before .before .before .before .before .pre .0, c .before .before .before .before .before .before .before .before .before .before .before .before .before .before .before .before .before .before .before .before .before .before .pre .1))
     (λ c. refl)
-    (λ c. refl)
-    (λ c κs. search needs)
-    (λ c. refl)
-    (λ c κs. tt)
-    (λ c. search needs)
-    (λ c.
-    let c₆ = c .before .before in
-    let c₅ = c₆ .before .before .before .before .before in
-    let c₄ = c₅ .before .before .before .before .before .before in
-    let c₃ = c₄ .before .before .before .before .before in
-    let c₂ = c₃ .before .before .before .before .before .before in
-    let c₁ = c₂ .before .before .before .before .before in
-    c₁ .put-coordinate .ensures ⨾ c₂ .put .ensures ⨾ c₃ .put-offset .ensures ⨾ c₄ .put2 .ensures ⨾ c₅ .put-offset2 .ensures ⨾ c₆ .put3 .ensures))
+    (λ c κs. omega (arith, c .before .before .before .before .before .before .before .before .before .before .before .before .before .before .before .before .before .before .before .before .before .before .before .before .before .before .before .pre .0, c .before .before .before .before .before .before .before .before .before .before .before .before .before .before .before .before .before .before .before .before .before .before .before .before .before .before .before .pre .1))
+    (λ c. keeps (c .before .before .before .before .before .before .before .before .before .before .before .before .before .before .before .before .before .before .before .before .before .before .before .before .before .before .before .put-coordinate .ensures ⨾ c .before .before .before .before .before .before .before .before .before .before .before .before .before .before .before .before .before .before .before .before .before .before .put .ensures ⨾ c .before .before .before .before .before .before .before .before .before .before .before .before .before .before .before .before .before .put-entry .ensures ⨾ c .before .before .before .before .before .before .before .before .before .before .before .before .put-entry2 .ensures ⨾ c .before .before .before .before .before .before .before .put-entry3 .ensures ⨾ c .before .before .put-entry4 .ensures))
+    (λ c. let a = c .before .before .before .before .before .before .before .before .before .before .before .before .before .before .before .before .before .before .before .before .before .before .before .before .before .before .before .before .before .before .args in same (moves (a .n) (coordinateText (a .i) (a .base))) (c .before .before .before .before .before .before .before .before .before .before .before .before .before .before .before .before .before .before .before .before .before .before .before .before .before .before .before .put-coordinate .ensures ⨾ c .before .before .before .before .before .before .before .before .before .before .before .before .before .before .before .before .before .before .before .before .before .before .put .ensures ⨾ c .before .before .before .before .before .before .before .before .before .before .before .before .before .before .before .before .before .put-entry .ensures ⨾ c .before .before .before .before .before .before .before .before .before .before .before .before .put-entry2 .ensures ⨾ c .before .before .before .before .before .before .before .put-entry3 .ensures ⨾ c .before .before .put-entry4 .ensures)))

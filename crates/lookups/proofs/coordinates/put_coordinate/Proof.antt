@@ -1,5 +1,6 @@
 use mathlib.Core.Path.{refl}
-use borrow.Author.Needs.{needs}
+use native.Mathlib.Omega.{arith}
+use Rattle.text.proofs.Laws.{_⨾_, keeps, same}
 use Rattle.metal.specs.Lookups.{coordinateText}
 use Rattle.lookups.proofs.coordinates.put_coordinate.Statement.{statement}
 use Rattle.lookups.proofs.coordinates.put_coordinate.Tie as tie
@@ -9,23 +10,23 @@ unfolding coordinateText
 put-coordinate-spec =
     tie.close
     (tie.spec
-    (λ c. search needs)
+    (λ c. c .match .keys1)
     (λ c. refl)
-    (λ c κs. search needs)
-    (λ c. search needs)
+    (λ c κs. omega (arith, c .before .before .before .before .before .pre))
+    (λ c. c .match .keys2)
     (λ c. refl)
-    (λ c κs. search needs)
-    (λ c. search needs)
+    (λ c κs. omega (arith, c .before .before .before .before .before .pre))
+    (λ c. c .match .keys3)
     (λ c. refl)
-    (λ c κs. search needs)
-    (λ c. search needs)
+    (λ c κs. omega (arith, c .before .before .before .before .before .pre))
+    (λ c. c .match .keys4)
     (λ c. refl)
-    (λ c κs. search needs)
-    (λ c. search needs)
-    (λ c. rw (c .before .before .before .before .before .enum-told .given .1) (c .before .before .put-numbered .ensures))
-    (λ c. search needs)
-    (λ c. rw (c .before .before .before .before .before .enum-told2 .given .1) (c .before .before .put-numbered2 .ensures))
-    (λ c. search needs)
-    (λ c. rw (c .before .before .before .before .before .enum-told3 .given .1) (c .before .before .put-numbered3 .ensures))
-    (λ c. search needs)
-    (λ c. rw (c .before .before .before .before .before .enum-told4 .given .1) (c .before .before .put-numbered4 .ensures)))
+    (λ c κs. omega (arith, c .before .before .before .before .before .pre))
+    (λ c. keeps (c .before .before .put-numbered .ensures))
+    (λ c. rw (c .before .before .before .before .before .enum-told .given .1) (same refl (c .before .before .put-numbered .ensures)))
+    (λ c. keeps (c .before .before .put-numbered2 .ensures))
+    (λ c. rw (c .before .before .before .before .before .enum-told2 .given .1) (same refl (c .before .before .put-numbered2 .ensures)))
+    (λ c. keeps (c .before .before .put-numbered3 .ensures))
+    (λ c. rw (c .before .before .before .before .before .enum-told3 .given .1) (same refl (c .before .before .put-numbered3 .ensures)))
+    (λ c. keeps (c .before .before .put-numbered4 .ensures))
+    (λ c. rw (c .before .before .before .before .before .enum-told4 .given .1) (same refl (c .before .before .put-numbered4 .ensures))))

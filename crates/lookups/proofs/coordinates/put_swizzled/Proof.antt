@@ -1,6 +1,7 @@
-use Rattle.text.proofs.Laws.{_⨾_}
 use mathlib.Core.Path.{refl}
-use borrow.Author.Needs.{needs}
+use native.Mathlib.Omega.{arith}
+use Rattle.text.proofs.Laws.{_⨾_, keeps, same}
+use Rattle.lookups.proofs.Laws.{dotted}
 use Rattle.lookups.proofs.coordinates.put_swizzled.Statement.{statement}
 use Rattle.lookups.proofs.coordinates.put_swizzled.Tie as tie
 
@@ -8,15 +9,9 @@ pub put-swizzled-spec : {M : Type 1} → statement M
 put-swizzled-spec =
     tie.close
     (tie.spec
-    (λ c κs. search needs)
-    (λ c. refl)
-    (λ c κs. tt)
+    (λ c κs. c .before .before .pre)
     (λ c. refl)
     (λ c. refl)
     (λ c κs. tt)
-    (λ c. search needs)
-    (λ c.
-    let c₃ = c .before .before in
-    let c₂ = c₃ .before .before .before .before .before .before in
-    let c₁ = c₂ .before .before .before .before .before in
-    c₁ .put-coordinate .ensures ⨾ c₂ .put .ensures ⨾ c₃ .put-either .ensures))
+    (λ c. keeps (c .before .before .before .before .before .before .before .before .put-coordinate .ensures ⨾ c .before .before .put-either .ensures))
+    (λ c. c .before .before .before .before .before .before .before .before .put-coordinate .ensures ⨾ same (dotted (c .before .before .before .before .before .before .before .before .before .before .before .args .three)) (c .before .before .put-either .ensures)))

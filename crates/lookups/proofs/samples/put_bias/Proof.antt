@@ -1,7 +1,8 @@
-use Rattle.text.proofs.Laws.{_⨾_, pick-true, pick-false, nothing}
 use mathlib.Core.Path.{refl}
 use native.Mathlib.Omega.{arith}
-use borrow.Author.Needs.{needs}
+use Rattle.text.proofs.Laws.{_⨾_, keeps, same}
+use Rattle.text.proofs.Laws.{pick-true, pick-false, nothing}
+use Rattle.lookups.proofs.Lines.{biased}
 use Rattle.lookups.proofs.samples.put_bias.Statement.{statement}
 use Rattle.lookups.proofs.samples.put_bias.Tie as tie
 
@@ -10,14 +11,7 @@ put-bias-spec =
     tie.close
     (tie.spec
     (λ c. refl)
-    (λ c κs. tt)
-    (λ c κs. search needs)
-    (λ c. refl)
-    (λ c κs. tt)
-    (λ c. search needs)
-    (λ c.
-    let c₃ = c .before .before in
-    let c₂ = c₃ .before .before .before .before .before in
-    let c₁ = c₂ .before .before .before .before in
-    pick-true (c₁ .before .before .before .if1 .taken) (c₁ .put .ensures ⨾ c₂ .put-lod-row .ensures ⨾ c₃ .put2 .ensures))
+    (λ c κs. omega (arith, c .before .before .before .before .pre))
+    (λ c. keeps (c .before .before .put-numbered .ensures))
+    (λ c. pick-true (c .before .before .before .before .before .if1 .taken) (same (biased (c .before .before .before .before .before .before .before .args .i)) (c .before .before .put-numbered .ensures)))
     (λ c. pick-false (c .if1 .left) (nothing _ _ (omega arith) (omega arith))))

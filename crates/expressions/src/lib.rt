@@ -1,0 +1,3 @@
+//! Expressions and the line of a stage, written.
+pub mod combine;
+pub mod line;

@@ -1,0 +1,19 @@
+use mathlib.Core.Path.{refl}
+use native.Mathlib.Omega.{arith}
+use Rattle.text.proofs.Laws.{_⨾_, keeps, same}
+use Rattle.lookups.proofs.Lines.{sampled}
+use Rattle.lookups.proofs.samples.put_plain_line.Statement.{statement}
+use Rattle.lookups.proofs.samples.put_plain_line.Tie as tie
+
+pub put-plain-line-spec : {M : Type 1} → statement M
+put-plain-line-spec =
+    tie.close
+    (tie.spec
+    (λ c. refl)
+    (λ c κs. omega (arith, c .before .before .before .pre))
+    (λ c κs. c .before .before .before .before .before .before .before .pre)
+    (λ c κs. c .before .before .before .before .before .before .before .before .before .before .before .pre)
+    (λ c. refl)
+    (λ c κs. tt)
+    (λ c. keeps (c .before .before .before .before .before .before .before .before .before .before .before .before .before .before .before .put-numbered .ensures ⨾ c .before .before .before .before .before .before .before .before .before .before .before .put-uv .ensures ⨾ c .before .before .before .before .before .before .before .put-bias .ensures ⨾ c .before .before .put .ensures))
+    (λ c. let a = c .before .before .before .before .before .before .before .before .before .before .before .before .before .before .before .before .before .before .before .args in same (sampled (a .three) (a .lod) (a .projected) (a .i) (a .c)) (c .before .before .before .before .before .before .before .before .before .before .before .before .before .before .before .put-numbered .ensures ⨾ c .before .before .before .before .before .before .before .before .before .before .before .put-uv .ensures ⨾ c .before .before .before .before .before .before .before .put-bias .ensures ⨾ c .before .before .put .ensures)))

@@ -1,0 +1,84 @@
+-- Parts of the text, put together as they are written: what is fixed in one piece, what a test chooses in one of two.
+use Prim.Native.Nat.{ℕ}
+use mathlib.Core.Bool.{Bool, true, false}
+use mathlib.Core.Path.{_≡_, refl, ap, sym, _∙_}
+use mathlib.Core.List.{List, _++_, append-assoc}
+use Rattle.text.specs.Text.{Text, bytes, raw, lit, pick, when, flat, _⊕_}
+use Rattle.text.specs.Marks.{numbered}
+use Rattle.text.specs.Buffer.{Wrote}
+use Rattle.text.proofs.Laws.{same}
+use Rattle.metal.specs.Lookups.{textureName, samplerName, typeText, textureTypeOf}
+use Rattle.metal.specs.Output.{specularText}
+use Rattle.metal.specs.Whole.{varyingsText, srgbHelperText, stageInText, textureParameter, samplerParameter, spriteLine, spriteText, localsText}
+use Rattle.metal.specs.declared.Variant.{Variant}
+use Rattle.metal.specs.declared.TextureType.{TextureType}
+
+-- two pieces written in one, and a text behind them
+pub regroup : {l l′ : List ℕ} {a a′ : ℕ} {s t u : Text} → Wrote l a l′ a′ ((s ⊕ t) ⊕ u) → Wrote l a l′ a′ (s ⊕ t ⊕ u)
+regroup {s = s} {t} {u} w = same (append-assoc (flat s) (flat t) (flat u)) w
+
+pub varyings : (b : Bool)
+    → flat (raw (flat
+    (lit "#include <metal_stdlib>\nusing namespace metal;\n\n"
+    ⊕ lit "struct Varyings {\n    float4 position [[position, invariant]];\n    float4 position1;\n"
+    ⊕ lit "    float4 texcoord0;\n    float4 texcoord1;\n    float4 texcoord2;\n    float4 texcoord3;\n"
+    ⊕ lit "    float4 texcoord4;\n    float4 texcoord5;\n    float4 texcoord6;\n    float4 texcoord7;\n"
+    ⊕ lit "    float4 texcoord8;\n    float4 texcoord9;\n    float4 texcoord10;\n    float4 texcoord11;\n"
+    ⊕ lit "    float4 texcoord12;\n    float4 texcoord13;\n    float4 texcoord14;\n    float4 texcoord15;\n"))
+    ⊕ pick b (lit "    float4 color0 [[flat]];\n    float4 color1 [[flat]];\n") (lit "    float4 color0;\n    float4 color1;\n")
+    ⊕ lit "    float4 fog;\n    float fog_z [[center_no_perspective]];\n    float point_size [[point_size]];\n};\n\n")
+    ≡ flat (varyingsText b)
+unfolding varyingsText
+varyings b = refl
+
+pub helper : (b : Bool)
+    → flat (when b (raw (flat
+    (lit "static inline float3 mtld3d_linear_to_srgb(float3 c) {\n    float3 lo = 12.92 * c;\n"
+    ⊕ lit "    float3 hi = 1.055 * pow(max(c, float3(0.0)), 1.0 / 2.4) - 0.055;\n"
+    ⊕ lit "    return select(hi, lo, c <= 0.0031308);\n}\n\n"))))
+    ≡ flat (srgbHelperText b)
+unfolding srgbHelperText
+helper b = refl
+
+pub begins : (b : Bool)
+    → flat (pick b
+    (lit "(\n    Varyings in_stage [[stage_in]],\n    float2 point_coord [[point_coord]],\n    constant float4 *ps_c [[buffer(15)]]")
+    (lit "(\n    Varyings in [[stage_in]],\n    constant float4 *ps_c [[buffer(15)]]"))
+    ≡ flat (stageInText b ⊕ lit "    constant float4 *ps_c [[buffer(15)]]")
+unfolding stageInText
+begins true = refl
+begins false = refl
+
+-- the parameters of a texture and its sampler
+abbrev pair : ℕ → TextureType → Text
+pair i t = lit ",\n    " ⊕ typeText t ⊕ numbered i (bytes " s# [[texture(#)]],\n    sampler samp# [[sampler(#)]]")
+
+pair-text : (v : Variant) (i : ℕ) → flat (pair i (textureTypeOf v i)) ≡ flat (textureParameter v i ⊕ samplerParameter i)
+unfolding textureParameter samplerParameter textureName samplerName
+pair-text v i =
+    ap (λ (r : List ℕ). bytes ",\n    " ++ r)
+    (sym (append-assoc (flat (typeText (textureTypeOf v i))) (flat (numbered i (bytes " s# [[texture(#)]]"))) (flat (numbered i (bytes ",\n    sampler samp# [[sampler(#)]]")))))
+
+pub paired : (v : Variant) (i : ℕ) (t : TextureType) → t ≡ textureTypeOf v i
+    → flat (pair i t) ≡ flat (textureParameter v i ⊕ samplerParameter i)
+paired v i t e = ap (λ (x : TextureType). flat (pair i x)) e ∙ pair-text v i
+
+pub sprites : (b : Bool)
+    → flat (when b (raw (flat
+    (lit "    Varyings in = in_stage;\n" ⊕ spriteLine 0 ⊕ spriteLine 1 ⊕ spriteLine 2 ⊕ spriteLine 3 ⊕ spriteLine 4 ⊕ spriteLine 5 ⊕ spriteLine 6 ⊕ spriteLine 7))))
+    ≡ flat (spriteText b)
+unfolding spriteText spriteLine
+sprites b = refl
+
+pub declared : (b : Bool)
+    → flat (pick b (lit "    float4 current = in.color0;\n    float4 temp = float4(0.0);\n") (lit "    float4 current = in.color0;\n")) ≡ flat (localsText b)
+unfolding localsText
+declared true = refl
+declared false = refl
+
+pub highlit : (b : Bool)
+    → flat (pick b (lit "    current = float4(saturate(current.rgb + in.color1.rgb), current.a);\n    float4 oC0 = current;\n") (lit "    float4 oC0 = current;\n"))
+    ≡ flat (specularText b ⊕ lit "    float4 oC0 = current;\n")
+unfolding specularText
+highlit true = refl
+highlit false = refl

@@ -1,0 +1,16 @@
+use mathlib.Core.Path.{refl}
+use native.Mathlib.Omega.{arith}
+use Rattle.text.proofs.Laws.{_⨾_, keeps, same}
+use Rattle.writers.proofs.Parts.{highlit}
+use Rattle.writers.proofs.output.put_specular.Statement.{statement}
+use Rattle.writers.proofs.output.put_specular.Tie as tie
+
+pub put-specular-spec : {M : Type 1} → statement M
+put-specular-spec =
+    tie.close
+    (tie.spec
+    (λ c. refl)
+    (λ c. refl)
+    (λ c κs. tt)
+    (λ c. keeps (c .before .before .put-either .ensures))
+    (λ c. same (highlit (c .before .before .before .before .before .before .before .args .on)) (c .before .before .put-either .ensures)))

@@ -1,0 +1,27 @@
+use Rattle.text.proofs.Laws.{_⨾_, pick-true, pick-false, nothing}
+use mathlib.Core.Path.{refl, sym, _∙_}
+use native.Mathlib.Omega.{arith}
+use borrow.Author.Needs.{needs}
+use Rattle.metal.specs.Output.{testText}
+use Rattle.writers.proofs.output.put_test.Statement.{statement}
+use Rattle.writers.proofs.output.put_test.Tie as tie
+
+pub put-test-spec : {M : Type 1} → statement M
+unfolding testText
+put-test-spec =
+    tie.close
+    (tie.spec
+    (λ c κs. search needs)
+    (λ c. refl)
+    (λ c κs. tt)
+    (λ c κs. search needs)
+    (λ c. refl)
+    (λ c κs. tt)
+    (λ c. search needs)
+    (λ c.
+    let c₃ = c .before .before in
+    let c₂ = c₃ .before .before .before .before .before in
+    let c₁ = c₂ .before .before .before .before in
+    let t = c₁ .before .before .before in
+    pick-true (sym (t .before .tested .ensures) ∙ t .if1 .taken) (c₁ .put .ensures ⨾ c₂ .put-comparison .ensures ⨾ c₃ .put2 .ensures))
+    (λ c. pick-false (sym (c .before .tested .ensures) ∙ c .if1 .left) (nothing _ _ (omega arith) (omega arith))))

@@ -1,0 +1,16 @@
+use mathlib.Core.Path.{refl}
+use native.Mathlib.Omega.{arith}
+use Rattle.text.proofs.Laws.{_⨾_, keeps, same}
+use Rattle.writers.proofs.Parts.{declared}
+use Rattle.writers.proofs.signature.put_locals.Statement.{statement}
+use Rattle.writers.proofs.signature.put_locals.Tie as tie
+
+pub put-locals-spec : {M : Type 1} → statement M
+put-locals-spec =
+    tie.close
+    (tie.spec
+    (λ c. refl)
+    (λ c. refl)
+    (λ c κs. tt)
+    (λ c. keeps (c .before .before .put-either .ensures))
+    (λ c. same (declared (c .before .before .before .before .before .before .before .args .alive)) (c .before .before .put-either .ensures)))

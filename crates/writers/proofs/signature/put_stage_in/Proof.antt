@@ -1,0 +1,16 @@
+use mathlib.Core.Path.{refl}
+use native.Mathlib.Omega.{arith}
+use Rattle.text.proofs.Laws.{_⨾_, keeps, same}
+use Rattle.writers.proofs.Parts.{begins}
+use Rattle.writers.proofs.signature.put_stage_in.Statement.{statement}
+use Rattle.writers.proofs.signature.put_stage_in.Tie as tie
+
+pub put-stage-in-spec : {M : Type 1} → statement M
+put-stage-in-spec =
+    tie.close
+    (tie.spec
+    (λ c. refl)
+    (λ c. refl)
+    (λ c κs. tt)
+    (λ c. keeps (c .before .before .put-either .ensures))
+    (λ c. same (begins (c .before .before .before .before .before .before .before .args .sprite)) (c .before .before .put-either .ensures)))

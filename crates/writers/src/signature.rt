@@ -1,0 +1,152 @@
+//! The parameters of the function, and what its body begins with.
+use cascade::Key;
+use cascade::Survey;
+use cascade::keys::textured;
+use lookups::bits::fogged;
+use lookups::bits::lod_bias;
+use lookups::bits::point_sprite;
+use lookups::bits::tested;
+use lookups::lookup::texture_type_of;
+use metal::TextureType;
+use metal::Variant;
+use text::put;
+use text::put_either;
+use text::put_numbered;
+use text::put_when;
+ghost use Prim.Native.Nat.{_<_};
+ghost use mathlib.Core.Path.{_≡_};
+ghost use Rattle.text.specs.Text.{bytes, lit, when, _⊕_};
+ghost use Rattle.text.specs.Marks.{numbered};
+ghost use Rattle.text.specs.Buffer.{Wrote};
+ghost use Rattle.cascade.specs.Keys.{active, activeCount};
+ghost use Rattle.cascade.specs.Survey.{surveyOf};
+ghost use Rattle.metal.specs.Lookups.{typeText};
+ghost use Rattle.metal.specs.Whole.{stageInText, textureParameter, samplerParameter, samplersText, parametersText, spriteText, localsText};
+
+// Up to the constants.
+fn put_stage_in(out: &mut [u8], at: usize, sprite: bool) -> usize
+    ensures { λ r. ⌜ Wrote (now (out .entry)) at (now (out .exit)) r (stageInText sprite ⊕ lit "    constant float4 *ps_c [[buffer(15)]]") ⌝ }
+{
+    put_either(
+        out,
+        at,
+        sprite,
+        b"(\n    Varyings in_stage [[stage_in]],\n    float2 point_coord [[point_coord]],\n    constant float4 *ps_c [[buffer(15)]]",
+        b"(\n    Varyings in [[stage_in]],\n    constant float4 *ps_c [[buffer(15)]]",
+    )
+}
+
+// The parameters of stage i's texture and sampler.
+fn put_pair(out: &mut [u8], at: usize, t: TextureType, i: u8) -> usize
+    requires { ⌜ i < 8 ⌝ }
+    ensures { λ r. ⌜ Wrote (now (out .entry)) at (now (out .exit)) r
+        (lit ",\n    " ⊕ typeText t ⊕ numbered i (bytes " s# [[texture(#)]],\n    sampler samp# [[sampler(#)]]")) ⌝ }
+{
+    match t {
+        TextureType::Depth => put_numbered(
+            out,
+            at,
+            b",\n    depth2d<float> s# [[texture(#)]],\n    sampler samp# [[sampler(#)]]",
+            i,
+        ),
+        TextureType::Volume => put_numbered(
+            out,
+            at,
+            b",\n    texture3d<float> s# [[texture(#)]],\n    sampler samp# [[sampler(#)]]",
+            i,
+        ),
+        TextureType::Cube => put_numbered(
+            out,
+            at,
+            b",\n    texturecube<float> s# [[texture(#)]],\n    sampler samp# [[sampler(#)]]",
+            i,
+        ),
+        TextureType::Flat => put_numbered(
+            out,
+            at,
+            b",\n    texture2d<float> s# [[texture(#)]],\n    sampler samp# [[sampler(#)]]",
+            i,
+        ),
+    }
+}
+
+fn put_sampler(out: &mut [u8], at: usize, there: bool, v: Variant, i: u8) -> usize
+    requires { ⌜ i < 8 ⌝ }
+    ensures { λ r. ⌜ Wrote (now (out .entry)) at (now (out .exit)) r (when there (textureParameter v i ⊕ samplerParameter i)) ⌝ }
+{
+    if there {
+        return put_pair(out, at, texture_type_of(v, i), i);
+    }
+    at
+}
+
+pub(crate) fn put_sprite(out: &mut [u8], at: usize, sprite: bool) -> usize
+    ensures { λ r. ⌜ Wrote (now (out .entry)) at (now (out .exit)) r (spriteText sprite) ⌝ }
+{
+    put_when(
+        out,
+        at,
+        sprite,
+        b"    Varyings in = in_stage;\n    in.texcoord0 = float4(point_coord.x, point_coord.y, 0.0, 0.0);\n    in.texcoord1 = float4(point_coord.x, point_coord.y, 0.0, 0.0);\n    in.texcoord2 = float4(point_coord.x, point_coord.y, 0.0, 0.0);\n    in.texcoord3 = float4(point_coord.x, point_coord.y, 0.0, 0.0);\n    in.texcoord4 = float4(point_coord.x, point_coord.y, 0.0, 0.0);\n    in.texcoord5 = float4(point_coord.x, point_coord.y, 0.0, 0.0);\n    in.texcoord6 = float4(point_coord.x, point_coord.y, 0.0, 0.0);\n    in.texcoord7 = float4(point_coord.x, point_coord.y, 0.0, 0.0);\n",
+    )
+}
+
+pub(crate) fn put_locals(out: &mut [u8], at: usize, alive: bool) -> usize
+    ensures { λ r. ⌜ Wrote (now (out .entry)) at (now (out .exit)) r (localsText alive) ⌝ }
+{
+    put_either(
+        out,
+        at,
+        alive,
+        b"    float4 current = in.color0;\n    float4 temp = float4(0.0);\n",
+        b"    float4 current = in.color0;\n",
+    )
+}
+
+// A texture and a sampler for each stage of the mask.
+fn put_samplers(out: &mut [u8], at: usize, k: Key, n: usize, v: Variant) -> usize
+    requires { ⌜ n ≡ activeCount (k .stages) ⌝ }
+    ensures { λ r. ⌜ Wrote (now (out .entry)) at (now (out .exit)) r (samplersText v 0 (active (k .stages))) ⌝ }
+{
+    let mut p = at;
+    let mut i = 0;
+    while i < n {
+        let s = k.stages[i];
+        p = put_sampler(out, p, textured(s), v, i as u8);
+        i += 1;
+    }
+    p
+}
+
+pub(crate) fn put_parameters(out: &mut [u8], at: usize, k: Key, v: Variant, u: Survey) -> usize
+    requires { ⌜ u ≡ surveyOf (k .stages) ⌝ }
+    ensures { λ r. ⌜ Wrote (now (out .entry)) at (now (out .exit)) r (parametersText v (active (k .stages))) ⌝ }
+{
+    let mut p = put_stage_in(out, at, point_sprite(v));
+    p = put_when(
+        out,
+        p,
+        tested(v),
+        b",\n    constant float &alpha_ref [[buffer(14)]]",
+    );
+    p = put_when(
+        out,
+        p,
+        fogged(v),
+        b",\n    constant float4 *fog_data [[buffer(13)]]",
+    );
+    p = put_when(
+        out,
+        p,
+        u.bump_env,
+        b",\n    constant float4 *bump_env [[buffer(12)]]",
+    );
+    p = put_when(
+        out,
+        p,
+        lod_bias(v),
+        b",\n    constant float4 *lod_bias [[buffer(11)]]",
+    );
+    p = put_samplers(out, p, k, u.count, v);
+    put(out, p, b"\n) {\n")
+}

@@ -1,0 +1,49 @@
+//! The whole text.
+use crate::Place;
+use crate::header::put_front;
+use crate::output::put_output;
+use crate::signature::put_locals;
+use crate::signature::put_parameters;
+use crate::signature::put_sprite;
+use crate::stages::put_stages;
+use cascade::Key;
+use cascade::Survey;
+use lookups::bits::point_sprite;
+use metal::Entry;
+use metal::Variant;
+use text::put;
+ghost use Prim.Native.Nat.{_≤_};
+ghost use mathlib.Core.Path.{_≡_};
+ghost use Rattle.text.specs.Buffer.{Wrote};
+ghost use Rattle.cascade.specs.Keys.{active};
+ghost use Rattle.cascade.specs.Reading.{lookupsOf};
+ghost use Rattle.cascade.specs.Survey.{surveyOf};
+ghost use Rattle.metal.specs.Whole.{bodyText, wholeText};
+
+fn put_body(out: &mut [u8], at: usize, k: Key, v: Variant, u: Survey) -> Place
+    requires { ⌜ u ≡ surveyOf (k .stages) ⌝ }
+    ensures { λ r. ⌜ Wrote (now (out .entry)) at (now (out .exit)) (r .at) (bodyText k v (active (k .stages))) ⌝ }
+    ensures { λ r. ⌜ r .lookups ≡ lookupsOf (u .live) (active (k .stages)) ⌝ }
+{
+    let a = put_parameters(out, at, k, v, u);
+    let b = put_sprite(out, a, point_sprite(v));
+    let c = put_locals(out, b, u.live);
+    let p = put_stages(out, c, k, v, u);
+    let d = put_output(out, p.at, k.specular_add, v);
+    Place {
+        at: d,
+        lookups: p.lookups,
+    }
+}
+
+pub fn put_whole(out: &mut [u8], k: Key, v: Variant, e: Entry, u: Survey) -> Place
+    requires { ⌜ (u ≡ surveyOf (k .stages)) × (e .len ≤ 32) ⌝ }
+    ensures { λ r. ⌜ Wrote (now (out .entry)) 0 (now (out .exit)) (r .at) (wholeText k v e) ⌝ }
+    ensures { λ r. ⌜ r .lookups ≡ lookupsOf (u .live) (active (k .stages)) ⌝ }
+{
+    let name = e.name;
+    let end = e.len as usize;
+    let a = put_front(out, 0, v);
+    let b = put(out, a, &name[..end]);
+    put_body(out, b, k, v, u)
+}
