@@ -8,7 +8,7 @@ ghost use Rattle.text.specs.Text.{raw, lit, pick, _⊕_};
 ghost use Rattle.text.specs.Buffer.{Wrote};
 ghost use Rattle.metal.specs.Lookups.{coordinateText, quotientText, uvText};
 
-pub fn put_coordinate(out: &mut [u8], at: usize, i: u8, c: Coordinate) -> usize
+pub(crate) fn put_coordinate(out: &mut [u8], at: usize, i: u8, c: Coordinate) -> usize
     requires { ⌜ i < 8 ⌝ }
     ensures { λ r. ⌜ Wrote (now (out .entry)) at (now (out .exit)) r (coordinateText i c) ⌝ }
 {
@@ -30,7 +30,7 @@ fn put_swizzled(out: &mut [u8], at: usize, three: bool, i: u8, c: Coordinate) ->
 }
 
 // A coordinate divided by its w, behind a test of w.
-pub fn put_tested_quotient(out: &mut [u8], at: usize, three: bool, i: u8, c: Coordinate) -> usize
+pub(crate) fn put_tested_quotient(out: &mut [u8], at: usize, three: bool, i: u8, c: Coordinate) -> usize
     requires { ⌜ i < 8 ⌝ }
     ensures { λ r. ⌜ Wrote (now (out .entry)) at (now (out .exit)) r
         (coordinateText i c ⊕ lit ".w != 0.0 ? " ⊕ quotientText three (coordinateText i c)) ⌝ }
@@ -44,7 +44,7 @@ pub fn put_tested_quotient(out: &mut [u8], at: usize, three: bool, i: u8, c: Coo
 }
 
 // Where to read: two coordinates or three, divided if the stage is projected.
-pub fn put_uv(
+pub(crate) fn put_uv(
     out: &mut [u8],
     at: usize,
     projected: bool,

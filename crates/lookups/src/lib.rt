@@ -1,6 +1,6 @@
 //! Lookups: the bits of a variant that choose them, their coordinates, their lines, and the bump stages before them.
 pub mod bits;
 pub mod bump;
-pub mod coordinates;
+mod coordinates;
 pub mod lookup;
-pub mod samples;
+mod samples;

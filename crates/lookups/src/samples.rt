@@ -34,7 +34,7 @@ fn put_bias(out: &mut [u8], at: usize, lod: bool, i: u8) -> usize
     at
 }
 
-pub fn put_gather_line(
+pub(crate) fn put_gather_line(
     out: &mut [u8],
     at: usize,
     alpha: bool,
@@ -58,7 +58,7 @@ pub fn put_gather_line(
 }
 
 // The other components of the texel are filled where the depth is in red alone.
-pub fn put_depth_line(
+pub(crate) fn put_depth_line(
     out: &mut [u8],
     at: usize,
     red: bool,
@@ -77,7 +77,7 @@ pub fn put_depth_line(
     put_either(out, p, red, b"), 0.0, 0.0, 1.0);\n", b"));\n")
 }
 
-pub fn put_compare_line(out: &mut [u8], at: usize, lod: bool, i: u8, c: Coordinate) -> usize
+pub(crate) fn put_compare_line(out: &mut [u8], at: usize, lod: bool, i: u8, c: Coordinate) -> usize
     requires { ⌜ i < 8 ⌝ }
     ensures { λ r. ⌜ Wrote (now (out .entry)) at (now (out .exit)) r (texelLine i (compareText lod i (coordinateText i c))) ⌝ }
 {
@@ -95,7 +95,7 @@ pub fn put_compare_line(out: &mut [u8], at: usize, lod: bool, i: u8, c: Coordina
     put(out, p, b"));\n")
 }
 
-pub fn put_plain_line(
+pub(crate) fn put_plain_line(
     out: &mut [u8],
     at: usize,
     three: bool,
@@ -114,7 +114,7 @@ pub fn put_plain_line(
 }
 
 // The line that declares a projected coordinate.
-pub fn put_projected_line(out: &mut [u8], at: usize, i: u8, c: Coordinate) -> usize
+pub(crate) fn put_projected_line(out: &mut [u8], at: usize, i: u8, c: Coordinate) -> usize
     requires { ⌜ i < 8 ⌝ }
     ensures { λ r. ⌜ Wrote (now (out .entry)) at (now (out .exit)) r (projectedLine i (coordinateText i c)) ⌝ }
 {

@@ -22,7 +22,7 @@ fn kind_byte(kind: Kind) -> u8
 }
 
 // The kind of a record, and how many bytes it has.
-pub fn pack_record(kind: Kind, n: usize) -> u64
+pub(crate) fn pack_record(kind: Kind, n: usize) -> u64
     requires { ⌜ n ≤ 59 ⌝ }
     ensures { λ r. ⌜ r ≡ packedRecord kind n ⌝ }
 {
