@@ -3,7 +3,7 @@ use Prim.Native.Nat.{ℕ}
 use mathlib.Core.Bool.{Bool, true, false}
 use mathlib.Core.Path.{_≡_, refl, ap, sym, _∙_}
 use mathlib.Core.List.{List, _++_, append-assoc}
-use Rattle.text.specs.Text.{Text, bytes, raw, lit, pick, when, flat, _⊕_}
+use Rattle.text.specs.Text.{Text, bytes, raw, lit, none, pick, flat, _⊕_}
 use Rattle.text.specs.Marks.{numbered}
 use Rattle.text.specs.Buffer.{Wrote}
 use Rattle.text.proofs.Laws.{same}
@@ -31,14 +31,17 @@ pub varyings : (b : Bool)
 unfolding varyingsText
 varyings b = refl
 
-pub helper : (b : Bool)
-    → flat (when b (raw (flat
+pub helper : flat (raw (flat
     (lit "static inline float3 mtld3d_linear_to_srgb(float3 c) {\n    float3 lo = 12.92 * c;\n"
     ⊕ lit "    float3 hi = 1.055 * pow(max(c, float3(0.0)), 1.0 / 2.4) - 0.055;\n"
-    ⊕ lit "    return select(hi, lo, c <= 0.0031308);\n}\n\n"))))
-    ≡ flat (srgbHelperText b)
+    ⊕ lit "    return select(hi, lo, c <= 0.0031308);\n}\n\n")))
+    ≡ flat (srgbHelperText true)
 unfolding srgbHelperText
-helper b = refl
+helper = refl
+
+pub no-helper : flat none ≡ flat (srgbHelperText false)
+unfolding srgbHelperText
+no-helper = refl
 
 pub begins : (b : Bool)
     → flat (pick b
@@ -63,12 +66,23 @@ pub paired : (v : Variant) (i : ℕ) (t : TextureType) → t ≡ textureTypeOf v
     → flat (pair i t) ≡ flat (textureParameter v i ⊕ samplerParameter i)
 paired v i t e = ap (λ (x : TextureType). flat (pair i x)) e ∙ pair-text v i
 
-pub sprites : (b : Bool)
-    → flat (when b (raw (flat
-    (lit "    Varyings in = in_stage;\n" ⊕ spriteLine 0 ⊕ spriteLine 1 ⊕ spriteLine 2 ⊕ spriteLine 3 ⊕ spriteLine 4 ⊕ spriteLine 5 ⊕ spriteLine 6 ⊕ spriteLine 7))))
-    ≡ flat (spriteText b)
+pub sprites : flat (raw (flat
+    (lit "    Varyings in = in_stage;\n"
+    ⊕ lit "    in.texcoord0 = float4(point_coord.x, point_coord.y, 0.0, 0.0);\n"
+    ⊕ lit "    in.texcoord1 = float4(point_coord.x, point_coord.y, 0.0, 0.0);\n"
+    ⊕ lit "    in.texcoord2 = float4(point_coord.x, point_coord.y, 0.0, 0.0);\n"
+    ⊕ lit "    in.texcoord3 = float4(point_coord.x, point_coord.y, 0.0, 0.0);\n"
+    ⊕ lit "    in.texcoord4 = float4(point_coord.x, point_coord.y, 0.0, 0.0);\n"
+    ⊕ lit "    in.texcoord5 = float4(point_coord.x, point_coord.y, 0.0, 0.0);\n"
+    ⊕ lit "    in.texcoord6 = float4(point_coord.x, point_coord.y, 0.0, 0.0);\n"
+    ⊕ lit "    in.texcoord7 = float4(point_coord.x, point_coord.y, 0.0, 0.0);\n")))
+    ≡ flat (spriteText true)
 unfolding spriteText spriteLine
-sprites b = refl
+sprites = refl
+
+pub no-sprites : flat none ≡ flat (spriteText false)
+unfolding spriteText
+no-sprites = refl
 
 pub declared : (b : Bool)
     → flat (pick b (lit "    float4 current = in.color0;\n    float4 temp = float4(0.0);\n") (lit "    float4 current = in.color0;\n")) ≡ flat (localsText b)

@@ -5,7 +5,6 @@ use lookups::bits::srgb_write;
 use metal::Variant;
 use text::put;
 use text::put_either;
-use text::put_when;
 ghost use Rattle.text.specs.Buffer.{Wrote};
 ghost use Rattle.metal.specs.Whole.{varyingsText, srgbHelperText, fragmentText, frontText};
 
@@ -34,12 +33,14 @@ fn put_varyings(out: &mut [u8], at: usize, flat: bool) -> usize
 fn put_srgb_helper(out: &mut [u8], at: usize, on: bool) -> usize
     ensures { λ r. ⌜ Wrote (now (out .entry)) at (now (out .exit)) r (srgbHelperText on) ⌝ }
 {
-    put_when(
-        out,
-        at,
-        on,
-        b"static inline float3 mtld3d_linear_to_srgb(float3 c) {\n    float3 lo = 12.92 * c;\n    float3 hi = 1.055 * pow(max(c, float3(0.0)), 1.0 / 2.4) - 0.055;\n    return select(hi, lo, c <= 0.0031308);\n}\n\n",
-    )
+    if on {
+        return put(
+            out,
+            at,
+            b"static inline float3 mtld3d_linear_to_srgb(float3 c) {\n    float3 lo = 12.92 * c;\n    float3 hi = 1.055 * pow(max(c, float3(0.0)), 1.0 / 2.4) - 0.055;\n    return select(hi, lo, c <= 0.0031308);\n}\n\n",
+        );
+    }
+    at
 }
 
 pub(crate) fn put_front(out: &mut [u8], at: usize, v: Variant) -> usize

@@ -83,12 +83,14 @@ fn put_sampler(out: &mut [u8], at: usize, there: bool, v: Variant, i: u8) -> usi
 pub(crate) fn put_sprite(out: &mut [u8], at: usize, sprite: bool) -> usize
     ensures { λ r. ⌜ Wrote (now (out .entry)) at (now (out .exit)) r (spriteText sprite) ⌝ }
 {
-    put_when(
-        out,
-        at,
-        sprite,
-        b"    Varyings in = in_stage;\n    in.texcoord0 = float4(point_coord.x, point_coord.y, 0.0, 0.0);\n    in.texcoord1 = float4(point_coord.x, point_coord.y, 0.0, 0.0);\n    in.texcoord2 = float4(point_coord.x, point_coord.y, 0.0, 0.0);\n    in.texcoord3 = float4(point_coord.x, point_coord.y, 0.0, 0.0);\n    in.texcoord4 = float4(point_coord.x, point_coord.y, 0.0, 0.0);\n    in.texcoord5 = float4(point_coord.x, point_coord.y, 0.0, 0.0);\n    in.texcoord6 = float4(point_coord.x, point_coord.y, 0.0, 0.0);\n    in.texcoord7 = float4(point_coord.x, point_coord.y, 0.0, 0.0);\n",
-    )
+    if sprite {
+        return put(
+            out,
+            at,
+            b"    Varyings in = in_stage;\n    in.texcoord0 = float4(point_coord.x, point_coord.y, 0.0, 0.0);\n    in.texcoord1 = float4(point_coord.x, point_coord.y, 0.0, 0.0);\n    in.texcoord2 = float4(point_coord.x, point_coord.y, 0.0, 0.0);\n    in.texcoord3 = float4(point_coord.x, point_coord.y, 0.0, 0.0);\n    in.texcoord4 = float4(point_coord.x, point_coord.y, 0.0, 0.0);\n    in.texcoord5 = float4(point_coord.x, point_coord.y, 0.0, 0.0);\n    in.texcoord6 = float4(point_coord.x, point_coord.y, 0.0, 0.0);\n    in.texcoord7 = float4(point_coord.x, point_coord.y, 0.0, 0.0);\n",
+        );
+    }
+    at
 }
 
 pub(crate) fn put_locals(out: &mut [u8], at: usize, alive: bool) -> usize

@@ -1,7 +1,11 @@
 use mathlib.Core.Path.{refl}
 use native.Mathlib.Omega.{arith}
 use Rattle.text.proofs.Laws.{_⨾_, keeps, same}
-use Rattle.writers.proofs.Parts.{helper}
+use mathlib.Core.Bool.{true, false}
+use Rattle.text.proofs.Laws.{nothing}
+use Rattle.lookups.proofs.Laws.{by-test}
+use Rattle.metal.specs.Whole.{srgbHelperText}
+use Rattle.writers.proofs.Parts.{helper, no-helper}
 use Rattle.writers.proofs.header.put_srgb_helper.Statement.{statement}
 use Rattle.writers.proofs.header.put_srgb_helper.Tie as tie
 
@@ -11,5 +15,6 @@ put-srgb-helper-spec =
     (tie.spec
     (λ c. refl)
     (λ c κs. tt)
-    (λ c. keeps (c .before .before .put-when .ensures))
-    (λ c. same (helper (c .before .before .before .before .before .before .args .on)) (c .before .before .put-when .ensures)))
+    (λ c. keeps (c .before .before .put .ensures))
+    (λ c. by-test srgbHelperText (c .before .before .before .before .before .before .before .args .on) true (c .before .before .before .before .before .if1 .taken) helper (c .before .before .put .ensures))
+    (λ c. by-test srgbHelperText (c .before .before .args .on) false (c .if1 .left) no-helper (nothing _ _ (omega arith) (omega arith))))

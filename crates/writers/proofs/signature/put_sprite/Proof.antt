@@ -1,17 +1,20 @@
 use mathlib.Core.Path.{refl}
 use native.Mathlib.Omega.{arith}
 use Rattle.text.proofs.Laws.{_⨾_, keeps, same}
-use Rattle.metal.specs.Whole.{spriteLine}
-use Rattle.writers.proofs.Parts.{sprites}
+use mathlib.Core.Bool.{true, false}
+use Rattle.text.proofs.Laws.{nothing}
+use Rattle.lookups.proofs.Laws.{by-test}
+use Rattle.metal.specs.Whole.{spriteText}
+use Rattle.writers.proofs.Parts.{sprites, no-sprites}
 use Rattle.writers.proofs.signature.put_sprite.Statement.{statement}
 use Rattle.writers.proofs.signature.put_sprite.Tie as tie
 
 pub put-sprite-spec : {M : Type 1} → statement M
-unfolding spriteLine
 put-sprite-spec =
     tie.close
     (tie.spec
     (λ c. refl)
     (λ c κs. tt)
-    (λ c. keeps (c .before .before .put-when .ensures))
-    (λ c. same (sprites (c .before .before .before .before .before .before .args .sprite)) (c .before .before .put-when .ensures)))
+    (λ c. keeps (c .before .before .put .ensures))
+    (λ c. by-test spriteText (c .before .before .before .before .before .before .before .args .sprite) true (c .before .before .before .before .before .if1 .taken) sprites (c .before .before .put .ensures))
+    (λ c. by-test spriteText (c .before .before .args .sprite) false (c .if1 .left) no-sprites (nothing _ _ (omega arith) (omega arith))))
