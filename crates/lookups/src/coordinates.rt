@@ -30,7 +30,13 @@ fn put_swizzled(out: &mut [u8], at: usize, three: bool, i: u8, c: Coordinate) ->
 }
 
 // A coordinate divided by its w, behind a test of w.
-pub(crate) fn put_tested_quotient(out: &mut [u8], at: usize, three: bool, i: u8, c: Coordinate) -> usize
+pub(crate) fn put_tested_quotient(
+    out: &mut [u8],
+    at: usize,
+    three: bool,
+    i: u8,
+    c: Coordinate,
+) -> usize
     requires { ⌜ i < 8 ⌝ }
     ensures { λ r. ⌜ Wrote (now (out .entry)) at (now (out .exit)) r
         (coordinateText i c ⊕ lit ".w != 0.0 ? " ⊕ quotientText three (coordinateText i c)) ⌝ }
