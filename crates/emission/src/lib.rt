@@ -1,5 +1,4 @@
 //! Emission from values: a key, a variant and an entry to Metal text in a lent buffer.
-pub mod checks;
 mod header;
 mod output;
 mod signature;

@@ -3,16 +3,14 @@ use emission::front;
 use libc::STDERR_FILENO;
 use libc::STDIN_FILENO;
 use libc::STDOUT_FILENO;
-use records::lines::put_refused_line;
-use records::session::Session;
-use records::session::begin;
-use records::session::step;
+use session::Session;
+use session::begin;
+use session::lines::put_refused_line;
+use session::step;
 ghost use Prim.Native.Nat.{_≤_, _<_};
 ghost use mathlib.Core.Path.{_≡_};
 ghost use mathlib.Core.Bool.{true};
 ghost use lib.ListN.{length};
-ghost use Rattle.records.specs.Program.{textRoom};
-ghost use Rattle.records.specs.Steps.{Ready, lineRoom};
 
 enum End {
     // The input ended.
@@ -71,66 +69,80 @@ fn read_input(input: &mut [u8]) -> Input
     }
 }
 
+// Whether the front of a buffer was written, all of it.
 fn write_front(buf: &mut [u8], len: usize) -> bool {
     let written = front(buf, len);
     io::write_all(STDOUT_FILENO, &written[..])
 }
 
-// Prints what the session prints next, and answers whether there is more, and the session that prints it.
+// A line and the text behind it, which waits for the line.
+fn write_printed(line: &mut [u8], n: usize, text: &mut [u8], m: usize) -> bool {
+    if !write_front(line, n) {
+        return false;
+    }
+    write_front(text, m)
+}
+
+// What the session printed next: whether it could be written, and whether there is more, by the next session.
 struct Turn {
+    written: bool,
     more: bool,
     next: Session,
 }
 
-fn print_step(session: Session, input: &[u8], line: &mut [u8], text: &mut [u8]) -> Turn
-    requires { ⌜ Ready session (now input) ⌝ }
-    requires { ⌜ lineRoom ≤ length (now line) ⌝ }
-    requires { ⌜ length (now text) ≡ textRoom ⌝ }
-    ensures ready { λ r. ⌜ Ready (r .next) (now (input .entry)) ⌝ }
-    ensures onward { λ r. ⌜ (r .more ≡ true → session .at < r .next .at) ⌝ }
+fn print_step(session: Session, input: &[u8], line: &mut [u8; 96], text: &mut [u8; 16384]) -> Turn
+    ensures { λ r. ⌜ (r .more ≡ true → (session .at < r .next .at) × (r .next .at ≤ length (now (input .entry)))) ⌝ }
 {
     let printed = step(session, input, line, text);
     let next = printed.next;
-    write_front(line, printed.line);
-    write_front(text, printed.text);
+    let written = write_printed(line, printed.line, text, printed.text);
     Turn {
+        written: written,
         more: printed.more,
         next: next,
     }
 }
 
-fn print_output(input: &[u8], line: &mut [u8], text: &mut [u8])
-    requires { ⌜ lineRoom ≤ length (now line) ⌝ }
-    requires { ⌜ length (now text) ≡ textRoom ⌝ }
-{
+// Whether what is printed for the input could be written. The first write that fails is the last.
+fn print_output(input: &[u8], line: &mut [u8; 96], text: &mut [u8; 16384]) -> bool {
     let mut session = begin();
     loop {
         let turn = print_step(session, input, line, text);
+        if !turn.written {
+            return false;
+        }
         if !turn.more {
-            return;
+            return true;
         }
         let next = turn.next;
         session = next;
     }
 }
 
+fn print_too_long(line: &mut [u8; 96]) -> bool {
+    let len = put_refused_line(line, 9, 32768);
+    write_front(line, len)
+}
+
+fn tell(message: &[u8]) {
+    io::write_all(STDERR_FILENO, message);
+}
+
+fn tell_unless(written: bool) {
+    if !written {
+        tell(b"standard output cannot be written\n");
+    }
+}
+
 // Standard input into the first buffer, and what is printed for it.
-fn run(input: &mut [u8], line: &mut [u8], text: &mut [u8])
-    requires { ⌜ lineRoom ≤ length (now line) ⌝ }
-    requires { ⌜ length (now text) ≡ textRoom ⌝ }
-{
+fn run(input: &mut [u8], line: &mut [u8; 96], text: &mut [u8; 16384]) {
     let got = read_input(input);
     let n = got.length;
     let end = got.end;
     match end {
-        End::Whole => print_output(&input[..n], line, text),
-        End::TooLong => {
-            let len = put_refused_line(line, 9, 32768);
-            write_front(line, len);
-        }
-        End::Failed => {
-            io::write_all(STDERR_FILENO, b"standard input cannot be read\n");
-        }
+        End::Whole => tell_unless(print_output(&input[..n], line, text)),
+        End::TooLong => tell_unless(print_too_long(line)),
+        End::Failed => tell(b"standard input cannot be read\n"),
     }
 }
 

@@ -3,6 +3,3 @@ pub mod Bodies
 pub mod Values
 pub mod Reading
 pub mod Writing
-pub mod Applying
-pub mod Program
-pub mod Steps

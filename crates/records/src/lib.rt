@@ -1,16 +1,12 @@
-//! Records: the bytes of keys, variants, entries and emit requests, read and written; and the held values that records replace.
+//! Records: the bytes of keys, variants, entries and emit requests, read and written.
 pub use cascade::Combiner;
 pub use cascade::Key;
 pub use cascade::Stage;
-pub use emission::Emitted;
-pub use emission::Entry;
-pub use emission::Variant;
+pub use metal::Entry;
+pub use metal::Variant;
 
-pub mod apply;
-pub mod lines;
 pub mod make;
 pub mod reader;
-pub mod session;
 pub mod writer;
 
 ghost use mathlib.Core.Path.{_≡_};
@@ -66,29 +62,6 @@ pub enum WriteAnswer {
     // How many bytes were written.
     Wrote(usize),
     Refused(Refusal),
-}
-
-// The held values, each there or not.
-pub struct Held {
-    pub has_key: bool,
-    pub key: Key,
-    pub has_variant: bool,
-    pub variant: Variant,
-    pub has_entry: bool,
-    pub entry: Entry,
-}
-
-pub enum ApplyAnswer {
-    // A value is held now. How many bytes its record took.
-    Replaced(usize),
-    // A text was written. How many bytes its record took, and what emission reports.
-    Text(usize, Emitted),
-    Refused(Refusal),
-}
-
-pub struct Applied {
-    pub answer: ApplyAnswer,
-    pub held: Held,
 }
 
 // The number of a refusal.

@@ -13,7 +13,7 @@ use lib.Seq.{sets}
 use Rattle.metal.specs.Results.{answerOf}
 use Rattle.metal.specs.declared.Answer.{Answer}
 use Rattle.metal.specs.declared.Answer.the-variants as emission-answer
-use Rattle.records.specs.Applying.{holdsAll, emissionAnswer, applyAs, applyRead, applyAnswer, applied, textAfter}
+use Rattle.held.specs.Applying.{holdsAll, emissionAnswer, applyAs, applyRead, applyAnswer, applied, textAfter}
 use Rattle.records.specs.Reading.{readRecord}
 use Rattle.records.specs.declared.Kind.{Kind}
 use Rattle.records.specs.declared.Kind.the-variants as kind
@@ -21,10 +21,10 @@ use Rattle.records.specs.declared.Record.{Record}
 use Rattle.records.specs.declared.Refusal.the-variants.{EmitTooEarly}
 use Rattle.records.specs.declared.ReadAnswer.{ReadAnswer}
 use Rattle.records.specs.declared.ReadAnswer.the-variants as read
-use Rattle.records.specs.declared.Held.{Held}
-use Rattle.records.specs.declared.ApplyAnswer.{ApplyAnswer}
-use Rattle.records.specs.declared.ApplyAnswer.the-variants.{Replaced, Text, Refused}
-use Rattle.records.specs.declared.Applied.{Applied}
+use Rattle.held.specs.declared.Held.{Held}
+use Rattle.held.specs.declared.ApplyAnswer.{ApplyAnswer}
+use Rattle.held.specs.declared.ApplyAnswer.the-variants.{Replaced, Text, Refused}
+use Rattle.held.specs.declared.Applied.{Applied}
 use Rattle.records.proofs.RoundTrips.{Bytes, read-rewrites}
 use Rattle.service.specs.Applying.{keyPart, variantPart, entryPart, heldOf, answerTo, placeOf, replacedBytes, heldAfter}
 use Rattle.service.specs.Packed.{packedApplied}

@@ -12,8 +12,8 @@ use Rattle.records.specs.declared.ReadAnswer.{ReadAnswer}
 use Rattle.records.specs.declared.ReadAnswer.the-variants as read
 use Rattle.records.specs.declared.WriteAnswer.{WriteAnswer}
 use Rattle.records.specs.declared.WriteAnswer.the-variants as write
-use Rattle.records.specs.declared.ApplyAnswer.{ApplyAnswer}
-use Rattle.records.specs.declared.ApplyAnswer.the-variants as apply
+use Rattle.held.specs.declared.ApplyAnswer.{ApplyAnswer}
+use Rattle.held.specs.declared.ApplyAnswer.the-variants as apply
 
 -- a record's kind in bits 8 to 15, and how many bytes it has in bits 16 to 23
 abbrev pub packedRecord : Kind → ℕ → ℕ

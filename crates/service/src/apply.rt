@@ -2,15 +2,15 @@
 use crate::number_of;
 use crate::pack;
 use crate::read_part;
-use records::ApplyAnswer;
-use records::Held;
-use records::apply::apply;
+use held::ApplyAnswer;
+use held::Held;
+use held::apply;
 use text::put;
 ghost use Prim.Native.Nat.{_<_, _≤_};
 ghost use mathlib.Core.Path.{_≡_};
 ghost use lib.ListN.{getD, length, take};
 ghost use lib.Seq.{sets};
-ghost use Rattle.records.specs.Applying.{applyAnswer, textAfter};
+ghost use Rattle.held.specs.Applying.{applyAnswer, textAfter};
 ghost use Rattle.service.specs.Applying.{answerTo, heldAfter, heldOf, placeOf, replacedBytes};
 ghost use Rattle.service.specs.Packed.{packedApplied};
 

@@ -2,7 +2,7 @@
 
 use oraclelib::{TEXT_CAP, blocks::blocks, list, program};
 
-const ANSWERS: &[u8] = include_bytes!("../../list/answers.bin");
+const ANSWERS: &[u8] = include_bytes!("../../../crates/replay/data/answers.bin");
 const README: &str = include_str!("../../list/README.md");
 
 #[test]
@@ -33,6 +33,6 @@ fn is_described_in_its_readme() {
         README.contains(&coverage),
         "list/README.md lacks\n{coverage}"
     );
-    assert!(README.contains(&format!("-- list {} list/answers.bin", list::SEED)));
+    assert!(README.contains(&format!("-- list {} ../crates/replay/data/answers.bin", list::SEED)));
     assert!(README.contains(&format!("{} bytes", ANSWERS.len())));
 }

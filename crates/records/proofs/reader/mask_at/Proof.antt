@@ -4,17 +4,8 @@ use borrow.Author.Needs.{needs}
 use Rattle.records.proofs.reader.mask_at.Statement.{statement}
 use Rattle.records.proofs.reader.mask_at.Tie as tie
 
-shared-slice-read-low : tie.Need-shared-slice-read-low
-shared-slice-read-low c = search needs
-
 cast-low : tie.Need-cast-low
 cast-low c = omega (arith, c .shared-slice-known .given (c .before .args .at))
-
-add-high : tie.Need-add-high
-add-high c = search needs
-
-shared-slice-read-high : tie.Need-shared-slice-read-high
-shared-slice-read-high c = search needs
 
 cast-high : tie.Need-cast-high
 cast-high c = omega (arith, c .before .shared-slice-known .given (c .before .before .args .at), c .shared-slice-known2 .given (c .before .before .args .at + 1))
@@ -25,18 +16,15 @@ mul-result c = omega (arith, c .before .shared-slice-known .given (c .before .be
 add-result : tie.Need-add-result
 add-result c = omega (arith, c .before .shared-slice-known .given (c .before .before .args .at), c .shared-slice-known2 .given (c .before .before .args .at + 1))
 
-returns : tie.Need-returns
-returns c = search needs
-
 pub mask-at-spec : {M : Type 1} → statement M
 mask-at-spec =
     tie.close
     (tie.spec
-    shared-slice-read-low
+    (λ c. search needs)
     cast-low
-    add-high
-    shared-slice-read-high
+    (λ c. search needs)
+    (λ c. search needs)
     cast-high
     mul-result
     add-result
-    returns)
+    (λ c. search needs))

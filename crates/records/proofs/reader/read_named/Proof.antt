@@ -1,24 +1,8 @@
 use mathlib.Core.Path.{_∙_}
 use Rattle.records.specs.declared.Kind.the-variants as kind
 use Rattle.records.proofs.Laws.{read-known, read-unknown}
-use borrow.Author.Needs.{needs}
 use Rattle.records.proofs.reader.read_named.Statement.{statement}
 use Rattle.records.proofs.reader.read_named.Tie as tie
-
-read-as-requires : tie.Need-read-as-requires
-read-as-requires c κs = search needs
-
-read-as-requires-2 : tie.Need-read-as-requires-2
-read-as-requires-2 c κs = search needs
-
-read-as-requires-3 : tie.Need-read-as-requires-3
-read-as-requires-3 c κs = search needs
-
-read-as-requires-4 : tie.Need-read-as-requires-4
-read-as-requires-4 c κs = search needs
-
-refuse-requires : tie.Need-refuse-requires
-refuse-requires c κs = search needs
 
 returns : tie.Need-returns
 returns c = c .read-as .ensures ∙ read-known kind.Key _ (c .before .match .keys1)
@@ -39,11 +23,11 @@ pub read-named-spec : {M : Type 1} → statement M
 read-named-spec =
     tie.close
     (tie.spec
-    read-as-requires
-    read-as-requires-2
-    read-as-requires-3
-    read-as-requires-4
-    refuse-requires
+    (λ c κs. tt)
+    (λ c κs. tt)
+    (λ c κs. tt)
+    (λ c κs. tt)
+    (λ c κs. tt)
     returns
     returns-2
     returns-3

@@ -16,23 +16,14 @@ Inv-loop body stages₀ i₀ stages i = (i ≤ 8) × (length stages ≡ 8) × (t
 abbrev μ-loop : tie.MeasureT-loop
 μ-loop body stages₀ i₀ stages i = 8 - i
 
-blank-stage-requires : tie.Need-blank-stage-requires Inv-loop μ-loop
-blank-stage-requires c κs = search needs
-
 loop-holds : tie.Need-loop-holds Inv-loop μ-loop
 loop-holds c = (omega arith, refl, refl)
 
 mul-stage-at : tie.Need-mul-stage-at Inv-loop μ-loop
 mul-stage-at c = omega arith
 
-stage-at-requires : tie.Need-stage-at-requires Inv-loop μ-loop
-stage-at-requires c κs = search needs
-
 mul-stages : tie.Need-mul-stages Inv-loop μ-loop
 mul-stages c = omega arith
-
-array-set-from-stages : tie.Need-array-set-from-stages Inv-loop μ-loop
-array-set-from-stages c = search needs
 
 add-i : tie.Need-add-i Inv-loop μ-loop
 add-i c = omega arith
@@ -55,12 +46,12 @@ stages-of-spec =
     (tie.spec
     Inv-loop
     μ-loop
-    blank-stage-requires
+    (λ c κs. tt)
     loop-holds
     mul-stage-at
-    stage-at-requires
+    (λ c κs. search needs)
     mul-stages
-    array-set-from-stages
+    (λ c. search needs)
     add-i
     loop-less
     loop-again

@@ -5,38 +5,17 @@ use borrow.Author.Needs.{needs}
 use Rattle.records.proofs.writer.check.Statement.{statement}
 use Rattle.records.proofs.writer.check.Tie as tie
 
-enum-told : tie.Need-enum-told
-enum-told c = search needs
-
-stage-flags-bad-requires : tie.Need-stage-flags-bad-requires
-stage-flags-bad-requires c κs = search needs
-
 returns : tie.Need-returns
 unfolding checkedAs
 returns c = rw (c .before .before .enum-told .given .1, sym (c .before .stage-flags-bad .ensures) ∙ c .if1 .taken)
-
-enum-told-2 : tie.Need-enum-told-2
-enum-told-2 c = search needs
-
-variant-flags-bad-requires : tie.Need-variant-flags-bad-requires
-variant-flags-bad-requires c κs = search needs
 
 returns-2 : tie.Need-returns-2
 unfolding checkedAs
 returns-2 c = rw (c .before .before .enum-told2 .given .1, sym (c .before .variant-flags-bad .ensures) ∙ c .if2 .taken)
 
-enum-told-3 : tie.Need-enum-told-3
-enum-told-3 c = search needs
-
-entry-good-requires : tie.Need-entry-good-requires
-entry-good-requires c κs = search needs
-
 returns-3 : tie.Need-returns-3
 unfolding checkedAs
 returns-3 c = rw (c .before .before .enum-told3 .given .1, sym (c .before .entry-good .ensures) ∙ not-true _ (c .if3 .taken))
-
-enum-told-4 : tie.Need-enum-told-4
-enum-told-4 c = search needs
 
 returns-4 : tie.Need-returns-4
 unfolding checkedAs
@@ -58,16 +37,16 @@ pub check-spec : {M : Type 1} → statement M
 check-spec =
     tie.close
     (tie.spec
-    enum-told
-    stage-flags-bad-requires
+    (λ c. search needs)
+    (λ c κs. tt)
     returns
-    enum-told-2
-    variant-flags-bad-requires
+    (λ c. search needs)
+    (λ c κs. tt)
     returns-2
-    enum-told-3
-    entry-good-requires
+    (λ c. search needs)
+    (λ c κs. tt)
     returns-3
-    enum-told-4
+    (λ c. search needs)
     returns-4
     returns-5
     returns-6

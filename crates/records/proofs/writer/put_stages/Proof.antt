@@ -25,15 +25,6 @@ unfolding stagesBytes
 loop-holds c =
     (omega arith, sym (length-map (c .before .args .t3 .stages) _) ∙ c .before .good .1 .1 .0 .1 .1 .0 .1 .0 .1, nothing _ _ (omega arith) (omega arith))
 
-mul-s : tie.Need-mul-s Inv-loop μ-loop
-mul-s c = search needs
-
-element-copy-out-s : tie.Need-element-copy-out-s Inv-loop μ-loop
-element-copy-out-s c = search needs
-
-put-stage-requires : tie.Need-put-stage-requires Inv-loop μ-loop
-put-stage-requires c κs = search needs
-
 add-i : tie.Need-add-i Inv-loop μ-loop
 add-i c = omega arith
 
@@ -60,9 +51,9 @@ put-stages-spec =
     Inv-loop
     μ-loop
     loop-holds
-    mul-s
-    element-copy-out-s
-    put-stage-requires
+    (λ c. search needs)
+    (λ c. search needs)
+    (λ c κs. tt)
     add-i
     loop-less
     loop-again

@@ -15,29 +15,11 @@ shaped s =
       name = sym (length-map (s .args .made .entry .name) _) ∙ s .good .0 .1 .1 .1 .1 .1 .0 .1 .1 .1 .0 .1 .0 .1;
     }
 
-record-length-requires : tie.Need-record-length-requires
-record-length-requires c κs = search needs
-
-check-requires : tie.Need-check-requires
-check-requires c κs = search needs
-
-enum-known-refusal : tie.Need-enum-known-refusal
-enum-known-refusal c = search needs
-
-enum-told : tie.Need-enum-told
-enum-told c = search needs
-
 returns : tie.Need-returns
 returns c = (write-short _ _ (c .before .before .before .check .ensures) (c .before .enum-told .given .1) (c .before .before .before .before .record-length .ensures) (c .if1 .taken), refl)
 
-put-record-requires : tie.Need-put-record-requires
-put-record-requires c κs = search needs
-
 returns-2 : tie.Need-returns-2
 returns-2 c = (write-bad _ _ (c .before .before .before .check .ensures) (c .before .refusal .given .1), refl)
-
-same-length : tie.Need-same-length
-same-length c = search needs
 
 returns-3 : tie.Need-returns-3
 returns-3 c =
@@ -49,12 +31,12 @@ pub write-spec : {M : Type 1} → statement M
 write-spec =
     tie.close
     (tie.spec
-    record-length-requires
-    check-requires
-    enum-known-refusal
-    enum-told
+    (λ c κs. tt)
+    (λ c κs. tt)
+    (λ c. search needs)
+    (λ c. search needs)
     returns
-    put-record-requires
+    (λ c κs. tt)
     returns-2
-    same-length
+    (λ c. search needs)
     returns-3)

@@ -1,0 +1,98 @@
+//! The causes for which values are refused: stage flags, variant flags, the entry.
+use cascade::Key;
+use metal::Entry;
+use metal::Variant;
+ghost use mathlib.Core.Path.{_≡_};
+ghost use mathlib.Core.Bool.{_&&_};
+ghost use lib.Dec.{eqb, leb};
+ghost use Rattle.metal.specs.Results.{all, continuesName, entryGood, isLetter, stageFlagsBad, startsName, variantFlagsBad};
+
+pub fn stage_flags_bad(key: Key) -> bool
+    ensures { λ r. ⌜ r ≡ stageFlagsBad (key .stages) ⌝ }
+{
+    let mut i = 0;
+    while i < 8 {
+        let s = key.stages[i];
+        if 4 <= s.flags {
+            return true;
+        }
+        i += 1;
+    }
+    false
+}
+
+pub fn variant_flags_bad(variant: Variant) -> bool
+    ensures { λ r. ⌜ r ≡ variantFlagsBad variant ⌝ }
+{
+    64 <= variant.flags
+}
+
+fn between(low: u8, c: u8, high: u8) -> bool
+    ensures { λ r. ⌜ r ≡ (leb low c && leb c high) ⌝ }
+{
+    low <= c && c <= high
+}
+
+fn is_letter(c: u8) -> bool
+    ensures { λ r. ⌜ r ≡ isLetter c ⌝ }
+{
+    between(b'A', c, b'Z') || between(b'a', c, b'z')
+}
+
+fn starts_name(c: u8) -> bool
+    ensures { λ r. ⌜ r ≡ startsName c ⌝ }
+{
+    is_letter(c) || c == b'_'
+}
+
+fn continues_name(c: u8) -> bool
+    ensures { λ r. ⌜ r ≡ continuesName c ⌝ }
+{
+    starts_name(c) || between(b'0', c, b'9')
+}
+
+fn all_continue(s: &[u8]) -> bool
+    ensures { λ r. ⌜ r ≡ all continuesName (now (s .entry)) ⌝ }
+{
+    let mut i = 0;
+    while i < s.len() {
+        if !continues_name(s[i]) {
+            return false;
+        }
+        i += 1;
+    }
+    true
+}
+
+fn all_zero(s: &[u8]) -> bool
+    ensures { λ r. ⌜ r ≡ all (λ c. eqb c 0) (now (s .entry)) ⌝ }
+{
+    let mut i = 0;
+    while i < s.len() {
+        if s[i] != 0 {
+            return false;
+        }
+        i += 1;
+    }
+    true
+}
+
+pub fn entry_good(entry: Entry) -> bool
+    ensures { λ r. ⌜ r ≡ entryGood entry ⌝ }
+{
+    let end = entry.len as usize;
+    let name = entry.name;
+    if end == 0 {
+        return false;
+    }
+    if 32 < end {
+        return false;
+    }
+    if !starts_name(name[0]) {
+        return false;
+    }
+    if !all_continue(&name[1..end]) {
+        return false;
+    }
+    all_zero(&name[end..])
+}

@@ -1,0 +1,170 @@
+//! The held values, and the record at the front of some bytes applied to them.
+pub use cascade::Combiner;
+pub use cascade::Key;
+pub use cascade::Stage;
+use emission::emit;
+pub use metal::Emitted;
+pub use metal::Entry;
+pub use metal::Variant;
+use records::Kind;
+use records::ReadAnswer;
+use records::Record;
+pub use records::Refusal;
+use records::make::blank_record;
+use records::reader::read;
+ghost use mathlib.Core.Path.{_≡_};
+ghost use lib.ListN.{length};
+ghost use Rattle.held.specs.Applying.{Demanded, applied, applyAs, holding, holdsAll, nothingHeld, refusalOf, refusedWith, replacedBy, textAfter};
+
+// The held values, each there or not.
+pub struct Held {
+    pub has_key: bool,
+    pub key: Key,
+    pub has_variant: bool,
+    pub variant: Variant,
+    pub has_entry: bool,
+    pub entry: Entry,
+}
+
+pub enum ApplyAnswer {
+    // A value is held now. How many bytes its record took.
+    Replaced(usize),
+    // A text was written. How many bytes its record took, and what emission reports.
+    Text(usize, Emitted),
+    Refused(Refusal),
+}
+
+pub struct Applied {
+    pub answer: ApplyAnswer,
+    pub held: Held,
+}
+
+pub fn nothing_held() -> Held
+    ensures { λ r. ⌜ r ≡ nothingHeld ⌝ }
+{
+    let none = blank_record(Kind::Emit);
+    let key = none.key;
+    let variant = none.variant;
+    let entry = none.entry;
+    Held {
+        has_key: false,
+        key: key,
+        has_variant: false,
+        variant: variant,
+        has_entry: false,
+        entry: entry,
+    }
+}
+
+// What is held once the record's value is.
+fn hold_key(found: Record, held: Held) -> Held
+    ensures { λ r. ⌜ r ≡ holding Kind.Key found held ⌝ }
+{
+    let key = found.key;
+    let mut after = held;
+    after.has_key = true;
+    after.key = key;
+    after
+}
+
+fn hold_variant(found: Record, held: Held) -> Held
+    ensures { λ r. ⌜ r ≡ holding Kind.Variant found held ⌝ }
+{
+    let variant = found.variant;
+    let mut after = held;
+    after.has_variant = true;
+    after.variant = variant;
+    after
+}
+
+fn hold_entry(found: Record, held: Held) -> Held
+    ensures { λ r. ⌜ r ≡ holding Kind.Entry found held ⌝ }
+{
+    let entry = found.entry;
+    let mut after = held;
+    after.has_entry = true;
+    after.entry = entry;
+    after
+}
+
+fn replaced(n: usize, after: Held) -> Applied
+    ensures { λ r. ⌜ r ≡ replacedBy n after ⌝ }
+{
+    Applied {
+        answer: ApplyAnswer::Replaced(n),
+        held: after,
+    }
+}
+
+// A refusal leaves what is held.
+fn refused(refusal: Refusal, kept: Held) -> Applied
+    ensures { λ r. ⌜ r ≡ refusedWith refusal kept ⌝ }
+{
+    Applied {
+        answer: ApplyAnswer::Refused(refusal),
+        held: kept,
+    }
+}
+
+fn holds_all(held: Held) -> bool
+    ensures { λ r. ⌜ r ≡ holdsAll held ⌝ }
+{
+    held.has_key & (held.has_variant & held.has_entry)
+}
+
+// Emission's refusal, with the same number.
+fn refusal_of(refusal: emission::Refusal) -> Refusal
+    ensures { λ r. ⌜ r ≡ refusalOf refusal ⌝ }
+{
+    match refusal {
+        emission::Refusal::StageFlags => Refusal::StageFlags,
+        emission::Refusal::VariantFlags => Refusal::VariantFlags,
+        emission::Refusal::EntryName => Refusal::EntryName,
+        emission::Refusal::TextTooLong => Refusal::NoRoom,
+    }
+}
+
+// An emit record that took n bytes.
+fn emit_held(held: Held, n: usize, text: &mut [u8]) -> ApplyAnswer
+    ensures answer { λ r. ⌜ r ≡ applyAs Kind.Emit n held (length (now (text .entry))) ⌝ }
+    ensures buffer { λ r. ⌜ now (text .exit) ≡ textAfter r held (now (text .entry)) ⌝ }
+    ensures names { λ r. ⌜ Demanded r (now (text .exit)) ⌝ }
+{
+    let key = held.key;
+    let variant = held.variant;
+    let entry = held.entry;
+    if !holds_all(held) {
+        return ApplyAnswer::Refused(Refusal::EmitTooEarly);
+    }
+    match emit(key, variant, entry, text) {
+        emission::Answer::Text(emitted) => ApplyAnswer::Text(n, emitted),
+        emission::Answer::Refused(refusal) => ApplyAnswer::Refused(refusal_of(refusal)),
+    }
+}
+
+// Reads the record at the front of the bytes and applies it to what is held. A refusal leaves what is held and text as they were.
+pub fn apply(held: Held, bytes: &[u8], text: &mut [u8]) -> Applied
+    ensures answer { λ r. ⌜ r ≡ applied held (now (bytes .entry)) (length (now (text .entry))) ⌝ }
+    ensures buffer { λ r. ⌜ now (text .exit) ≡ textAfter (r .answer) held (now (text .entry)) ⌝ }
+    ensures names { λ r. ⌜ Demanded (r .answer) (now (text .exit)) ⌝ }
+{
+    let reading = read(bytes);
+    let answer = reading.answer;
+    let found = reading.found;
+    let kind = found.kind;
+    match answer {
+        ReadAnswer::Refused(refusal) => refused(refusal, held),
+        ReadAnswer::Took(n) => match kind {
+            Kind::Key => replaced(n, hold_key(found, held)),
+            Kind::Variant => replaced(n, hold_variant(found, held)),
+            Kind::Entry => replaced(n, hold_entry(found, held)),
+            Kind::Emit => {
+                let emitted = emit_held(held, n, text);
+                Applied {
+                    answer: emitted,
+                    held: held,
+                }
+            }
+        },
+    }
+}

@@ -1,0 +1,5 @@
+pub mod LineLaws
+pub mod Taking
+pub mod Steps
+pub mod Printed
+pub mod Examples
