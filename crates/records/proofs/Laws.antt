@@ -1,5 +1,6 @@
 -- Laws of the bodies of records: their lengths, and the values and bytes of stages one behind another.
 use mathlib.Core.Path.{_≡_, refl, sym, ap, _∙_}
+use mathlib.Core.Bool.{Bool, cond}
 use mathlib.Core.List.{List, [], _∷_, _++_, append-assoc, append-nil}
 use Prim.Native.Nat.{ℕ, suc, _+_, _-_, _*_, _≤_, _<_}
 use native.Mathlib.Numerals.{add-one}
@@ -52,7 +53,7 @@ name-done b l i e h k = sym (take-all 32 l (omega arith)) ∙ rw e at k
 -- which case of the reader holds
 pub read-short : (k : Kind) {n : ℕ} (b : List ℕ) → n ≡ bodyLength k → length b < n → refused CutShort ≡ readAs k b
 unfolding readAs
-read-short k b e h = rw (lt-ltb (length b) _ (rw e at h))
+read-short k b e h = ap (λ (t : Bool). cond t (refused CutShort) (readBody k b)) (sym (lt-ltb (length b) _ (rw e at h)))
 
 pub read-whole : {k k′ : Kind} {n : ℕ} (b : List ℕ) → n ≡ bodyLength k → k ≡ k′ → n ≤ length b → readBody k′ b ≡ readAs k b
 unfolding readAs
