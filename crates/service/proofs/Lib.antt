@@ -3,3 +3,4 @@ mod Parts
 mod Emitting
 mod Applying
 pub mod Writing
+pub mod Held
