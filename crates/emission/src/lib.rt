@@ -9,7 +9,7 @@ pub use metal::Emitted;
 pub use metal::Entry;
 pub use metal::Refusal;
 pub use metal::Variant;
-use writers::whole::put_whole;
+use whole::put_whole;
 ghost use Prim.Native.Nat.{_≤_, _+_};
 ghost use mathlib.Core.Path.{_≡_};
 ghost use mathlib.Core.Bool.{cond};

@@ -43,7 +43,7 @@ fn put_srgb_helper(out: &mut [u8], at: usize, on: bool) -> usize
     at
 }
 
-pub(crate) fn put_front(out: &mut [u8], at: usize, v: Variant) -> usize
+pub fn put_front(out: &mut [u8], at: usize, v: Variant) -> usize
     ensures { λ r. ⌜ Wrote (now (out .entry)) at (now (out .exit)) r (frontText v) ⌝ }
 {
     let mut p = put_varyings(out, at, flat_shade(v));

@@ -133,7 +133,7 @@ fn put_return(out: &mut [u8], at: usize, v: Variant) -> usize
     }
 }
 
-pub(crate) fn put_output(out: &mut [u8], at: usize, specular: bool, v: Variant) -> usize
+pub fn put_output(out: &mut [u8], at: usize, specular: bool, v: Variant) -> usize
     ensures { λ r. ⌜ Wrote (now (out .entry)) at (now (out .exit)) r (outputText specular v) ⌝ }
 {
     let srgb = srgb_write(v);

@@ -80,7 +80,7 @@ fn put_sampler(out: &mut [u8], at: usize, there: bool, v: Variant, i: u8) -> usi
     at
 }
 
-pub(crate) fn put_sprite(out: &mut [u8], at: usize, sprite: bool) -> usize
+pub fn put_sprite(out: &mut [u8], at: usize, sprite: bool) -> usize
     ensures { λ r. ⌜ Wrote (now (out .entry)) at (now (out .exit)) r (spriteText sprite) ⌝ }
 {
     if sprite {
@@ -93,7 +93,7 @@ pub(crate) fn put_sprite(out: &mut [u8], at: usize, sprite: bool) -> usize
     at
 }
 
-pub(crate) fn put_locals(out: &mut [u8], at: usize, alive: bool) -> usize
+pub fn put_locals(out: &mut [u8], at: usize, alive: bool) -> usize
     ensures { λ r. ⌜ Wrote (now (out .entry)) at (now (out .exit)) r (localsText alive) ⌝ }
 {
     put_either(
@@ -120,7 +120,7 @@ fn put_samplers(out: &mut [u8], at: usize, k: Key, n: usize, v: Variant) -> usiz
     p
 }
 
-pub(crate) fn put_parameters(out: &mut [u8], at: usize, k: Key, v: Variant, u: Survey) -> usize
+pub fn put_parameters(out: &mut [u8], at: usize, k: Key, v: Variant, u: Survey) -> usize
     requires { ⌜ u ≡ surveyOf (k .stages) ⌝ }
     ensures { λ r. ⌜ Wrote (now (out .entry)) at (now (out .exit)) r (parametersText v (active (k .stages))) ⌝ }
 {

@@ -6,7 +6,7 @@ use lib.ListN.{length, length-map}
 use Rattle.text.proofs.Laws.{within, keeps}
 use Rattle.cascade.specs.Keys.{activeCount}
 use Rattle.cascade.proofs.Active.{count-le}
-use Rattle.writers.proofs.Loops.{SamplersFrom, samplers-turn, samplers-end}
+use Rattle.writers.proofs.Samplers.{SamplersFrom, samplers-turn, samplers-end}
 use Rattle.writers.proofs.signature.put_samplers.Statement.{statement}
 use Rattle.writers.proofs.signature.put_samplers.Tie as tie
 

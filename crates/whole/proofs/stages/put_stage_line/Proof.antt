@@ -3,8 +3,8 @@ use Rattle.text.proofs.Laws.{pick-true, pick-false, nothing}
 use Rattle.metal.specs.Whole.{stageLine}
 use native.Mathlib.Omega.{arith}
 use borrow.Author.Needs.{needs}
-use Rattle.writers.proofs.stages.put_stage_line.Statement.{statement}
-use Rattle.writers.proofs.stages.put_stage_line.Tie as tie
+use Rattle.whole.proofs.stages.put_stage_line.Statement.{statement}
+use Rattle.whole.proofs.stages.put_stage_line.Tie as tie
 
 pub put-stage-line-spec : {M : Type 1} → statement M
 unfolding stageLine

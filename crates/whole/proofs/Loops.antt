@@ -1,4 +1,4 @@
--- The loops over the active stages: what is still to be written, written, makes the whole.
+-- The loop over the active stages: what is still to be written, written, makes the whole.
 use Prim.Native.Nat.{ℕ, suc, _+_, _*_, _/_, _%_, _^_, _<_, _≤_}
 use mathlib.Core.Bool.{Bool, true, false, cond}
 use mathlib.Core.Path.{_≡_, refl, ap, sym, _∙_}
@@ -7,7 +7,7 @@ use native.Mathlib.Omega.{arith}
 use native.Mathlib.Numerals.{add-one}
 use lib.Dec.{eqb}
 use lib.ListN.{length, drop, getD}
-use Rattle.text.specs.Text.{Text, none, when, _⊕_}
+use Rattle.text.specs.Text.{Text, when, _⊕_}
 use Rattle.text.specs.Buffer.{Wrote}
 use Rattle.text.proofs.Laws.{_⨾_, nothing, within, keeps}
 use Rattle.combiners.specs.Codes.{bit}
@@ -24,26 +24,10 @@ use Rattle.cascade.proofs.Active.{here, past}
 use Rattle.metal.specs.Lookups.{lookupOf, beforeOf, sampleText}
 use Rattle.metal.specs.Order.{Precedes}
 use Rattle.metal.specs.Output.{lodBias}
-use Rattle.metal.specs.Whole.{textureParameter, samplerParameter, samplersText, stageLine, stagesText}
+use Rattle.metal.specs.Whole.{stageLine, stagesText}
 use Rattle.metal.specs.declared.Variant.{Variant}
 use Rattle.metal.specs.declared.Before.{Before}
 use Rattle.metal.specs.declared.Before.the-variants.{Ordinary, Displacing}
-
-module _ (v : Variant) (l : List Stage) where
-  -- the texture and sampler parameters from stage i on, written, make all of them
-  abbrev pub SamplersFrom : List ℕ → ℕ → List ℕ → ℕ → ℕ → Type 0
-  SamplersFrom out₀ at out p i =
-      (out′ : List ℕ) (p′ : ℕ) → Wrote out p out′ p′ (samplersText v i (drop i (active l))) → Wrote out₀ at out′ p′ (samplersText v 0 (active l))
-
-  pub samplers-turn : {out₀ out out₁ : List ℕ} {at p p₁ : ℕ} (i : ℕ) (d : Stage) → i < activeCount l → SamplersFrom out₀ at out p i
-      → Wrote out p out₁ p₁ (when (textured (getD l i d)) (textureParameter v i ⊕ samplerParameter i)) → SamplersFrom out₀ at out₁ p₁ (i + 1)
-  unfolding samplersText
-  samplers-turn i d h inv w out′ p′ x = inv out′ p′ (rw (here l i d h, ← add-one i) (w ⨾ x))
-
-  pub samplers-end : {out₀ out : List ℕ} {at p : ℕ} (i : ℕ) → activeCount l ≤ i → length out < 2 ^ 63 → p < 2 ^ 64 → SamplersFrom out₀ at out p i
-      → Wrote out₀ at out p (samplersText v 0 (active l))
-  unfolding samplersText
-  samplers-end {out = out} {p = p} i h r q inv = inv out p (rw (past l i h) (nothing out p r q))
 
 -- the lowest of the marks, and the others
 mark-first : (alive : Bool) (s : Stage) (r : List Stage) → eqb (marksOf alive (s ∷ r) % 2) 1 ≡ marked alive (s ∷ r)

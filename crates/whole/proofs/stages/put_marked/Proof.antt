@@ -2,8 +2,8 @@ use native.Mathlib.Numerals.{add-one}
 use Rattle.text.proofs.Laws.{pick-true, pick-false, nothing}
 use native.Mathlib.Omega.{arith}
 use borrow.Author.Needs.{needs}
-use Rattle.writers.proofs.stages.put_marked.Statement.{statement}
-use Rattle.writers.proofs.stages.put_marked.Tie as tie
+use Rattle.whole.proofs.stages.put_marked.Statement.{statement}
+use Rattle.whole.proofs.stages.put_marked.Tie as tie
 
 pub put-marked-spec : {M : Type 1} → statement M
 put-marked-spec =

@@ -1,10 +1,6 @@
-//! The whole text.
-use crate::Place;
-use crate::header::put_front;
-use crate::output::put_output;
-use crate::signature::put_locals;
-use crate::signature::put_parameters;
-use crate::signature::put_sprite;
+//! The whole text, and the lookups and lines of its stages.
+mod stages;
+
 use crate::stages::put_stages;
 use cascade::Key;
 use cascade::Survey;
@@ -12,6 +8,11 @@ use lookups::bits::point_sprite;
 use metal::Entry;
 use metal::Variant;
 use text::put;
+use writers::header::put_front;
+use writers::output::put_output;
+use writers::signature::put_locals;
+use writers::signature::put_parameters;
+use writers::signature::put_sprite;
 ghost use Prim.Native.Nat.{_≤_};
 ghost use mathlib.Core.Path.{_≡_};
 ghost use Rattle.text.specs.Buffer.{Wrote};
@@ -19,6 +20,12 @@ ghost use Rattle.cascade.specs.Keys.{active};
 ghost use Rattle.cascade.specs.Reading.{lookupsOf};
 ghost use Rattle.cascade.specs.Survey.{surveyOf};
 ghost use Rattle.metal.specs.Whole.{bodyText, wholeText};
+
+// The place behind what has been written, and the lookups among it.
+pub struct Place {
+    pub at: usize,
+    pub lookups: u8,
+}
 
 fn put_body(out: &mut [u8], at: usize, k: Key, v: Variant, u: Survey) -> Place
     requires { ⌜ u ≡ surveyOf (k .stages) ⌝ }

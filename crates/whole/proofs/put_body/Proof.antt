@@ -2,9 +2,9 @@ use Rattle.text.proofs.Laws.{_⨾_, keeps}
 use native.Mathlib.Omega.{arith}
 use borrow.Author.Needs.{needs}
 use Rattle.metal.specs.Whole.{bodyText}
-use Rattle.writers.proofs.Loops.{survey-live}
-use Rattle.writers.proofs.whole.put_body.Statement.{statement}
-use Rattle.writers.proofs.whole.put_body.Tie as tie
+use Rattle.whole.proofs.Loops.{survey-live}
+use Rattle.whole.proofs.put_body.Statement.{statement}
+use Rattle.whole.proofs.put_body.Tie as tie
 
 pub put-body-spec : {M : Type 1} → statement M
 unfolding bodyText

@@ -5,8 +5,8 @@ use Rattle.text.proofs.Laws.{_⨾_}
 use native.Mathlib.Omega.{arith}
 use borrow.Author.Needs.{needs}
 use Rattle.metal.specs.Whole.{wholeText}
-use Rattle.writers.proofs.whole.put_whole.Statement.{statement}
-use Rattle.writers.proofs.whole.put_whole.Tie as tie
+use Rattle.whole.proofs.put_whole.Statement.{statement}
+use Rattle.whole.proofs.put_whole.Tie as tie
 
 named : (s : tie.Start) → length (s .args .e .name) ≡ 32
 named s = sym (length-map (s .args .e .name) _) ∙ s .good .1 .1 .1 .0 .1 .1 .1 .0 .1 .0 .1

@@ -1,7 +1,7 @@
 use mathlib.Core.Path.{sym, _∙_}
 use Rattle.metal.specs.Lookups.{beforeOf}
-use Rattle.writers.proofs.stages.before_of.Statement.{statement}
-use Rattle.writers.proofs.stages.before_of.Tie as tie
+use Rattle.whole.proofs.stages.before_of.Statement.{statement}
+use Rattle.whole.proofs.stages.before_of.Tie as tie
 
 pub before-of-spec : {M : Type 1} → statement M
 unfolding beforeOf

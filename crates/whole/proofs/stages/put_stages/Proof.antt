@@ -7,9 +7,9 @@ use Rattle.text.proofs.Laws.{within, keeps}
 use Rattle.cascade.specs.Keys.{activeCount}
 use Rattle.cascade.proofs.Active.{count-le}
 use Rattle.metal.specs.Order.{Precedes}
-use Rattle.writers.proofs.Loops.{AtStage, stages-start, stages-turn, stages-end, survey-count, survey-marks, precedes, no-line, a-line}
-use Rattle.writers.proofs.stages.put_stages.Statement.{statement}
-use Rattle.writers.proofs.stages.put_stages.Tie as tie
+use Rattle.whole.proofs.Loops.{AtStage, stages-start, stages-turn, stages-end, survey-count, survey-marks, precedes, no-line, a-line}
+use Rattle.whole.proofs.stages.put_stages.Statement.{statement}
+use Rattle.whole.proofs.stages.put_stages.Tie as tie
 
 abbrev Inv-loop : tie.InvT-loop
 Inv-loop out₀ at v k n alive marks₀ before₀ p₀ lookups₀ i₀ out marks before p lookups i =
