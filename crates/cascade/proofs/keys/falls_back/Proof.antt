@@ -8,4 +8,4 @@ falls-back-spec =
     tie.close
     (tie.spec
     (λ c κs. tt)
-    (λ c. cc))
+    (λ c. rw (c .reads .ensures)))

@@ -10,4 +10,4 @@ is-bump-spec =
     (λ c κs. tt)
     (λ c κs. tt)
     (λ c κs. tt)
-    (λ c. cc))
+    (λ c. rw (c .falls-back .ensures, c .before .textured .ensures, c .before .before .is-bump-op .ensures)))

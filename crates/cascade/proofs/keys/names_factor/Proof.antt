@@ -11,4 +11,4 @@ names-factor-spec =
     (λ c κs. tt)
     (λ c κs. tt)
     (λ c κs. tt)
-    (λ c. cc))
+    (λ c. rw (c .before .selects4 .ensures, c .before .before .selects3 .ensures, c .before .before .before .selects2 .ensures, c .before .before .before .before .selects .ensures)))

@@ -9,4 +9,4 @@ reads-spec =
     (tie.spec
     (λ c κs. tt)
     (λ c κs. tt)
-    (λ c. cc))
+    (λ c. rw (c .selects2 .ensures, c .before .before .before .selects .ensures)))

@@ -13,4 +13,4 @@ reads-constant-spec =
     (λ c κs. tt)
     (λ c κs. tt)
     (λ c κs. tt)
-    (λ c. cc))
+    (λ c. rw (c .alpha-from-colour .ensures, c .before .reads2 .ensures, c .before .before .falls-back2 .ensures, c .before .before .before .reads .ensures, c .before .before .before .before .falls-back .ensures, c .before .before .before .before .before .textured .ensures)))

@@ -11,4 +11,4 @@ alpha-written-spec =
     (λ c κs. tt)
     (λ c κs. tt)
     (λ c κs. tt)
-    (λ c. cc))
+    (λ c. rw (c .before .alpha-from-colour .ensures, c .before .before .is-bump-op .ensures, c .before .before .before .falls-back .ensures, c .before .before .before .before .textured .ensures)))

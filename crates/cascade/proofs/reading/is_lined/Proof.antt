@@ -8,4 +8,4 @@ is-lined-spec =
     tie.close
     (tie.spec
     (λ c κs. tt)
-    (λ c. cc))
+    (λ c. rw (c .to-temp .ensures)))

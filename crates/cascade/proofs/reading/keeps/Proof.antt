@@ -11,4 +11,4 @@ keeps-spec =
     (λ c κs. tt)
     (λ c κs. tt)
     (λ c κs. tt)
-    (λ c. cc))
+    (λ c. rw (c .selects2 .ensures, c .before .keeps-second .ensures, c .before .before .selects .ensures, c .before .before .before .keeps-first .ensures)))

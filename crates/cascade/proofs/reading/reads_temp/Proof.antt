@@ -11,4 +11,4 @@ reads-temp-spec =
     (λ c κs. tt)
     (λ c κs. tt)
     (λ c κs. tt)
-    (λ c. cc))
+    (λ c. rw (c .reads-temp-by2 .ensures, c .before .alpha-written .ensures, c .before .before .reads-temp-by .ensures, c .before .before .before .textured .ensures)))

@@ -7,4 +7,4 @@ reads-temp-by-spec =
     (tie.spec
     (λ c κs. tt)
     (λ c κs. tt)
-    (λ c. cc))
+    (λ c. rw (c .keeps .ensures, c .before .falls-back .ensures)))

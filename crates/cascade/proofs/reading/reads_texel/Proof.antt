@@ -11,4 +11,4 @@ reads-texel-spec =
     (λ c κs. tt)
     (λ c κs. tt)
     (λ c κs. tt)
-    (λ c. cc))
+    (λ c. rw (c .reads-texel-by2 .ensures, c .before .alpha-written .ensures, c .before .before .reads-texel-by .ensures, c .before .before .before .textured .ensures)))

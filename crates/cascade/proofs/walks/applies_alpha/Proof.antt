@@ -11,4 +11,4 @@ applies-alpha-spec =
     (λ c κs. tt)
     (λ c κs. tt)
     (λ c κs. tt)
-    (λ c. cc))
+    (λ c. rw (c .falls-back .ensures, c .before .textured .ensures, c .before .before .alpha-written .ensures, c .before .before .before .is-bump .ensures)))

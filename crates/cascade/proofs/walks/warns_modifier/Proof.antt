@@ -11,4 +11,4 @@ warns-modifier-spec =
     (λ c κs. tt)
     (λ c κs. tt)
     (λ c κs. tt)
-    (λ c. cc))
+    (λ c. rw (c .unknown-modifier2 .ensures, c .before .applies-alpha .ensures, c .before .before .unknown-modifier .ensures, c .before .before .before .applies-colour .ensures)))

@@ -11,4 +11,4 @@ warns-op-spec =
     (λ c κs. tt)
     (λ c κs. tt)
     (λ c κs. tt)
-    (λ c. cc))
+    (λ c. rw (c .without-text2 .ensures, c .before .applies-alpha .ensures, c .before .before .without-text .ensures, c .before .before .before .applies-colour .ensures)))

@@ -11,4 +11,4 @@ warns-selector-spec =
     (λ c κs. tt)
     (λ c κs. tt)
     (λ c κs. tt)
-    (λ c. cc))
+    (λ c. rw (c .unknown-selector2 .ensures, c .before .applies-alpha .ensures, c .before .before .unknown-selector .ensures, c .before .before .before .applies-colour .ensures)))

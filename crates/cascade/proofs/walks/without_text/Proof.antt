@@ -6,4 +6,4 @@ without-text-spec =
     tie.close
     (tie.spec
     (λ c κs. tt)
-    (λ c. cc))
+    (λ c. rw (c .has-text .ensures)))
