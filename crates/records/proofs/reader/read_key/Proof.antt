@@ -1,8 +1,5 @@
-use mathlib.Core.Path.{_≡_}
-use mathlib.Core.Bool.{true, false}
+use mathlib.Core.Path.{sym, _∙_}
 use borrow.Author.Tests.{lt-ltb, le-ltb}
-use Rattle.metal.specs.Results.{stageFlagsBad}
-use Rattle.records.specs.Bodies.{keyOf}
 use Rattle.records.specs.Reading.{readBody}
 use borrow.Author.Needs.{needs}
 use Rattle.records.proofs.reader.read_key.Statement.{statement}
@@ -10,18 +7,19 @@ use Rattle.records.proofs.reader.read_key.Tie as tie
 
 returns : tie.Need-returns
 unfolding readBody
-returns c = let e : stageFlagsBad (keyOf (c .before .before .before .before .before .before .args .body .now) .stages) ≡ true = cc in
-    rw e (c .refuse .ensures)
+returns c = rw (← c .before .before .before .before .key-of .ensures, sym (c .before .before .stage-flags-bad .ensures) ∙ c .before .if1 .taken) (c .refuse .ensures)
 
 returns-2 : tie.Need-returns-2
 unfolding readBody
-returns-2 c = let e : stageFlagsBad (keyOf (c .before .before .before .before .before .before .before .args .body .now) .stages) ≡ false = cc in
-    rw (e, lt-ltb _ _ (c .before .if2 .taken)) (c .refuse2 .ensures)
+returns-2 c =
+    rw (← c .before .before .before .before .before .key-of .ensures, sym (c .before .before .before .stage-flags-bad .ensures) ∙ c .before .before .if1 .left, lt-ltb _ _ (c .before .if2 .taken))
+    (c .refuse2 .ensures)
 
 returns-3 : tie.Need-returns-3
 unfolding readBody
-returns-3 c = let e : stageFlagsBad (keyOf (c .before .before .before .before .before .before .before .before .args .body .now) .stages) ≡ false = cc in
-    rw (e, le-ltb _ _ (c .before .before .if2 .left)) (cc)
+returns-3 c =
+    rw (← c .before .before .before .before .before .before .key-of .ensures, sym (c .before .before .before .before .stage-flags-bad .ensures) ∙ c .before .before .before .if1 .left, le-ltb _ _ (c .before .before .if2 .left), ← c .before .key-record .ensures)
+    (c .take-record .ensures)
 
 pub read-key-spec : {M : Type 1} → statement M
 read-key-spec =

@@ -1,7 +1,4 @@
-use mathlib.Core.Path.{_≡_}
-use mathlib.Core.Bool.{true, false}
-use Rattle.metal.specs.Results.{variantFlagsBad}
-use Rattle.records.specs.Bodies.{variantOf}
+use mathlib.Core.Path.{sym, _∙_}
 use Rattle.records.specs.Reading.{readBody}
 use borrow.Author.Needs.{needs}
 use Rattle.records.proofs.reader.read_variant.Statement.{statement}
@@ -9,11 +6,12 @@ use Rattle.records.proofs.reader.read_variant.Tie as tie
 
 returns : tie.Need-returns
 unfolding readBody
-returns c = let e : variantFlagsBad (variantOf (c .before .before .before .before .before .args .body .now)) ≡ true = cc in rw e (c .refuse .ensures)
+returns c = rw (← c .before .before .before .variant-of .ensures, sym (c .before .before .variant-flags-bad .ensures) ∙ c .before .if1 .taken) (c .refuse .ensures)
 
 returns-2 : tie.Need-returns-2
 unfolding readBody
-returns-2 c = let e : variantFlagsBad (variantOf (c .before .before .before .before .before .before .args .body .now)) ≡ false = cc in rw e (cc)
+returns-2 c =
+    rw (← c .before .before .before .before .variant-of .ensures, sym (c .before .before .before .variant-flags-bad .ensures) ∙ c .before .before .if1 .left, ← c .before .variant-record .ensures) (c .take-record .ensures)
 
 pub read-variant-spec : {M : Type 1} → statement M
 read-variant-spec =
