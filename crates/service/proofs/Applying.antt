@@ -26,13 +26,13 @@ use Rattle.held.specs.declared.ApplyAnswer.{ApplyAnswer}
 use Rattle.held.specs.declared.ApplyAnswer.the-variants.{Replaced, Text, Refused}
 use Rattle.held.specs.declared.Applied.{Applied}
 use Rattle.records.proofs.RoundTrips.{Bytes, read-rewrites}
+use Rattle.parts.specs.Parts.{partOf}
+use Rattle.parts.specs.declared.Part.{Part}
+use Rattle.parts.proofs.Reading.{took-small}
 use Rattle.service.specs.Applying.{keyPart, variantPart, entryPart, heldOf, answerTo, placeOf, replacedBytes, heldAfter}
 use Rattle.service.specs.Packed.{packedApplied}
-use Rattle.service.specs.Parts.{partOf}
-use Rattle.service.specs.declared.Part.{Part}
 use Rattle.service.specs.declared.apply.Outcome.{Outcome}
 use Rattle.service.proofs.Emitting.{lengthIn, length-most}
-use Rattle.service.proofs.Reading.{took-small}
 
 -- the bytes that an answer counts, and the length of its text
 abbrev pub tookOf : ApplyAnswer → ℕ

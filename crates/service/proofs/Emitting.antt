@@ -16,10 +16,10 @@ use Rattle.metal.specs.declared.Refusal.the-variants.{StageFlags, VariantFlags,
 use Rattle.metal.specs.declared.Answer.{Answer}
 use Rattle.metal.specs.declared.Answer.the-variants.{Text, Refused}
 use Rattle.metal.proofs.Length.{at-most}
+use Rattle.parts.specs.Parts.{partOf}
+use Rattle.parts.specs.declared.Part.{Part}
 use Rattle.service.specs.Emitting.{partsNumber, emitted, emittedBuffer}
 use Rattle.service.specs.Packed.{packed}
-use Rattle.service.specs.Parts.{partOf}
-use Rattle.service.specs.declared.Part.{Part}
 
 -- the length that an answer carries
 abbrev pub lengthIn : Answer → ℕ

@@ -29,8 +29,8 @@ use Rattle.held.specs.declared.Held.{Held}
 use Rattle.held.specs.declared.ApplyAnswer.{ApplyAnswer}
 use Rattle.held.specs.declared.ApplyAnswer.the-variants.{Replaced, Text, Refused}
 use Rattle.records.proofs.RoundTrips.{Bytes, Rewrites, read-rewrites, written-reads}
+use Rattle.parts.specs.Parts.{readNumber, partNumber, keyNumber, variantNumber, entryNumber, keyIn, variantIn, entryIn}
 use Rattle.service.specs.Applying.{keyPart, variantPart, entryPart, heldOf, answerTo, placeOf, replacedBytes, heldAfter}
-use Rattle.service.specs.Parts.{readNumber, partNumber, keyNumber, variantNumber, entryNumber, keyIn, variantIn, entryIn}
 
 -- A record that was read has eight stages and a name of 32 bytes.
 

@@ -10,7 +10,7 @@ use Rattle.held.specs.declared.Held.{Held}
 use Rattle.records.specs.declared.Refusal.the-variants.{CutShort}
 use Rattle.held.specs.declared.ApplyAnswer.{ApplyAnswer}
 use Rattle.held.specs.declared.ApplyAnswer.the-variants.{Replaced, Text, Refused}
-use Rattle.service.specs.Parts.{keyNumber, variantNumber, entryNumber, keyIn, variantIn, entryIn}
+use Rattle.parts.specs.Parts.{keyNumber, variantNumber, entryNumber, keyIn, variantIn, entryIn}
 
 -- 59 bytes, 20 and 34, one behind another
 abbrev pub keyPart : List ℕ → List ℕ

@@ -5,8 +5,8 @@ use mathlib.Core.List.{List}
 use lib.Dec.{ltb}
 use lib.ListN.{length}
 use Rattle.metal.specs.Results.{answerOf, bufferAfter, textOf}
+use Rattle.parts.specs.Parts.{keyNumber, variantNumber, entryNumber, keyIn, variantIn, entryIn}
 use Rattle.service.specs.Packed.{packed}
-use Rattle.service.specs.Parts.{keyNumber, variantNumber, entryNumber, keyIn, variantIn, entryIn}
 
 -- the first part refused, in the order key, variant, entry, or 0
 unfoldable pub partsNumber : List ℕ → List ℕ → List ℕ → ℕ

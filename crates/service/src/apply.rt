@@ -1,10 +1,10 @@
 //! A record applied to the held key, variant and entry, whose records the caller keeps.
-use crate::number_of;
 use crate::pack;
-use crate::read_part;
 use held::ApplyAnswer;
 use held::Held;
 use held::apply;
+use parts::number_of;
+use parts::read_part;
 use text::put;
 ghost use Prim.Native.Nat.{_<_, _≤_};
 ghost use mathlib.Core.Path.{_≡_};

@@ -1,9 +1,9 @@
 //! Emission from the records of a key, a variant and an entry.
 use crate::pack;
-use crate::read_part;
 use emission::Answer;
 use emission::Refusal;
 use emission::emit;
+use parts::read_part;
 use records::Entry;
 use records::Key;
 use records::Variant;

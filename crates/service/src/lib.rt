@@ -1,72 +1,33 @@
 //! The C interface: records in lent bytes read, written, emitted from and applied, each answer packed into a number. See include/yuzuknoll.h.
 mod apply;
 mod emit;
-mod read;
-mod write;
 
 use emission::Emitted;
-use records::ReadAnswer;
-use records::Record;
-use records::Refusal;
-use records::number;
+use parts::read::read_packed;
+use parts::write::write_packed;
 ghost use Prim.Native.Nat.{_<_};
 ghost use mathlib.Core.Path.{_≡_};
-ghost use Rattle.records.specs.Refusals.{numberOf};
+ghost use lib.ListN.{length};
+ghost use Rattle.parts.specs.Packed.{packedReading};
+ghost use Rattle.parts.specs.Writing.{written, writtenBuffer};
+ghost use Rattle.records.specs.Reading.{readRecord};
 ghost use Rattle.service.specs.Packed.{packedText};
-ghost use Rattle.service.specs.Parts.{partOf, readNumber};
 
-// What was read of a lent record: the number of its refusal, 0 for none, and the record.
-pub struct Part {
-    pub number: u64,
-    pub found: Record,
+// What the record at the front of bytes is.
+#[no_mangle]
+pub extern "C" fn yuzuknoll_read(bytes: &[u8]) -> u64
+    ensures { λ r. ⌜ r ≡ packedReading (readRecord (now (bytes .entry))) ⌝ }
+{
+    read_packed(bytes)
 }
 
-fn number_of(cause: Refusal) -> u64
-    ensures { λ r. ⌜ r ≡ numberOf cause ⌝ }
+// Writes the record at the front of record to the front of out; bytes behind it stay. A refusal leaves out as it was.
+#[no_mangle]
+pub extern "C" fn yuzuknoll_write(record: &[u8], out: &mut [u8]) -> u64
+    ensures answer { λ r. ⌜ r ≡ written (now («record» .entry)) (length (now (out .entry))) ⌝ }
+    ensures buffer { λ r. ⌜ now (out .exit) ≡ writtenBuffer (now («record» .entry)) (now (out .entry)) ⌝ }
 {
-    number(cause) as u64
-}
-
-// The number of the reader's refusal, 0 for none.
-fn read_number(answer: ReadAnswer) -> u64
-    ensures { λ r. ⌜ r ≡ readNumber answer ⌝ }
-{
-    match answer {
-        ReadAnswer::Took(n) => 0,
-        ReadAnswer::Refused(cause) => number_of(cause),
-    }
-}
-
-// The record of a kind, of size bytes, alone in a lent part.
-fn read_part(kind: u8, size: usize, bytes: &[u8]) -> Part
-    ensures { λ r. ⌜ r ≡ partOf kind size (now (bytes .entry)) ⌝ }
-{
-    let reading = records::reader::read(bytes);
-    let found = reading.found;
-    let answer = reading.answer;
-    let n = read_number(answer);
-    if bytes.len() == 0 {
-        return Part {
-            number: n,
-            found: found,
-        };
-    }
-    if bytes[0] != kind {
-        return Part {
-            number: 2,
-            found: found,
-        };
-    }
-    if bytes.len() != size {
-        return Part {
-            number: 1,
-            found: found,
-        };
-    }
-    Part {
-        number: n,
-        found: found,
-    }
+    write_packed(record, out)
 }
 
 // The results of an emission, in 56 bits.

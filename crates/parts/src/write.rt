@@ -7,11 +7,10 @@ use records::reader::read;
 use records::writer::write;
 ghost use mathlib.Core.Path.{_≡_};
 ghost use lib.ListN.{length};
-ghost use Rattle.service.specs.Writing.{written, writtenBuffer};
+ghost use Rattle.parts.specs.Writing.{written, writtenBuffer};
 
 // Writes the record at the front of record to the front of out; bytes behind it stay. A refusal leaves out as it was.
-#[no_mangle]
-pub extern "C" fn yuzuknoll_write(record: &[u8], out: &mut [u8]) -> u64
+pub fn write_packed(record: &[u8], out: &mut [u8]) -> u64
     ensures answer { λ r. ⌜ r ≡ written (now («record» .entry)) (length (now (out .entry))) ⌝ }
     ensures buffer { λ r. ⌜ now (out .exit) ≡ writtenBuffer (now («record» .entry)) (now (out .entry)) ⌝ }
 {

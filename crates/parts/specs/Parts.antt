@@ -11,7 +11,7 @@ use Rattle.records.specs.Reading.{readRecord}
 use Rattle.records.specs.Refusals.{numberOf}
 use Rattle.records.specs.declared.ReadAnswer.{ReadAnswer}
 use Rattle.records.specs.declared.ReadAnswer.the-variants.{Took, Refused}
-use Rattle.service.specs.declared.Part.{Part}
+use Rattle.parts.specs.declared.Part.{Part}
 
 -- 01's number of the reader's refusal, 0 for none
 abbrev pub readNumber : ReadAnswer → ℕ

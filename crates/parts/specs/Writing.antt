@@ -10,7 +10,7 @@ use Rattle.records.specs.declared.ReadAnswer.{ReadAnswer}
 use Rattle.records.specs.declared.ReadAnswer.the-variants.{Took, Refused}
 use Rattle.records.specs.declared.WriteAnswer.{WriteAnswer}
 use Rattle.records.specs.declared.WriteAnswer.the-variants as write
-use Rattle.service.specs.Packed.{packedWritten}
+use Rattle.parts.specs.Packed.{packedWritten}
 
 -- the reader's refusal, or the writer's answer
 abbrev pub rewriteAs : ReadAnswer → Record → ℕ → WriteAnswer

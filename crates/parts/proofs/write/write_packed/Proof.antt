@@ -1,7 +1,7 @@
--- `yuzuknoll_write` answers the reader's refusal, or what the writer answers for the record that was read.
-use Rattle.service.proofs.Writing.{write-unread, wrote-small, write-answered}
-use Rattle.service.proofs.write.yuzuknoll_write.Statement.{statement}
-use Rattle.service.proofs.write.yuzuknoll_write.Tie as tie
+-- `write_packed` answers the reader's refusal, or what the writer answers for the record that was read.
+use Rattle.parts.proofs.Writing.{write-unread, wrote-small, write-answered}
+use Rattle.parts.proofs.write.write_packed.Statement.{statement}
+use Rattle.parts.proofs.write.write_packed.Tie as tie
 
 pack-record-requires : tie.Need-pack-record-requires
 pack-record-requires c κs =
@@ -24,8 +24,8 @@ returns-3 c =
     let r = w .before .before .before .before .before in
     write-answered _ (r .before .before .before .args .out .now) (r .read .ensures) (w .before .before .enum-told .given .1) (w .write .ensures) (rw (c .before .before .wrote2 .given .1) (c .number-of2 .ensures))
 
-pub yuzuknoll-write-spec : {M : Type 1} → statement M
-yuzuknoll-write-spec =
+pub write-packed-spec : {M : Type 1} → statement M
+write-packed-spec =
     tie.close
     (tie.spec
     (λ c κs. tt)

@@ -1,8 +1,8 @@
 -- `read_part` answers what `partOf` picks by the tests of its branches.
 use borrow.Author.Needs.{needs}
-use Rattle.service.proofs.Parts.{part-empty, part-kind, part-size, part-read}
-use Rattle.service.proofs.read_part.Statement.{statement}
-use Rattle.service.proofs.read_part.Tie as tie
+use Rattle.parts.proofs.Parts.{part-empty, part-kind, part-size, part-read}
+use Rattle.parts.proofs.read_part.Statement.{statement}
+use Rattle.parts.proofs.read_part.Tie as tie
 
 returns : tie.Need-returns
 returns c = part-empty _ _ _ (c .before .before .before .read .ensures) (c .before .read-number .ensures) (c .if1 .taken)

@@ -10,7 +10,7 @@ use Rattle.records.specs.declared.Refusal.{Refusal}
 use Rattle.records.specs.declared.ReadAnswer.the-variants.{Took, Refused}
 use Rattle.records.proofs.Laws.{body-short}
 use Rattle.records.proofs.RoundTrips.{Bytes, read-rewrites}
-use Rattle.service.specs.Packed.{packedRecord, packedReading}
+use Rattle.parts.specs.Packed.{packedRecord, packedReading}
 
 module _ (b : List ℕ) {r : Reading} where
   -- a record that was taken is short

@@ -7,7 +7,7 @@ ghost use Prim.Native.Nat.{_≤_};
 ghost use mathlib.Core.Path.{_≡_};
 ghost use Rattle.records.specs.Bodies.{kindByte};
 ghost use Rattle.records.specs.Reading.{readRecord};
-ghost use Rattle.service.specs.Packed.{packedRecord, packedReading};
+ghost use Rattle.parts.specs.Packed.{packedRecord, packedReading};
 
 // 01's byte of a kind.
 fn kind_byte(kind: Kind) -> u8
@@ -32,8 +32,7 @@ pub(crate) fn pack_record(kind: Kind, n: usize) -> u64
 }
 
 // What the record at the front of bytes is.
-#[no_mangle]
-pub extern "C" fn yuzuknoll_read(bytes: &[u8]) -> u64
+pub fn read_packed(bytes: &[u8]) -> u64
     ensures { λ r. ⌜ r ≡ packedReading (readRecord (now (bytes .entry))) ⌝ }
 {
     let reading = read(bytes);

@@ -21,8 +21,8 @@ use Rattle.records.specs.declared.WriteAnswer.{WriteAnswer}
 use Rattle.records.specs.declared.WriteAnswer.the-variants.{Wrote, Refused}
 use Rattle.records.proofs.Laws.{body-short}
 use Rattle.records.proofs.RoundTrips.{Bytes, read-rewrites, read-writes}
-use Rattle.service.specs.Packed.{packedReading, packedWritten}
-use Rattle.service.specs.Writing.{written, writtenBuffer}
+use Rattle.parts.specs.Packed.{packedReading, packedWritten}
+use Rattle.parts.specs.Writing.{written, writtenBuffer}
 
 -- a record that was written is short
 room-small : (b : Bool) (k : Kind) (n : ℕ) → cond b (Refused NoRoom) (Wrote (recordLength k)) ≡ Wrote n → n ≤ 59

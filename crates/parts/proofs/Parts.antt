@@ -6,7 +6,7 @@ use borrow.Author.Tests.{eq-eqb, ne-eqb}
 use lib.ListN.{length, getD}
 use Rattle.records.specs.Reading.{readRecord}
 use Rattle.records.specs.declared.Reading.{Reading}
-use Rattle.service.specs.Parts.{readNumber, partNumber, partOf}
+use Rattle.parts.specs.Parts.{readNumber, partNumber, partOf}
 
 module _ (kind size : ℕ) (b : List ℕ) {r : Reading} (p : r ≡ readRecord b) where
   pub part-empty : {n : ℕ} → n ≡ readNumber (r .answer) → length b ≡ 0 → record { number = n; found = r .found } ≡ partOf kind size b

@@ -1,0 +1,3 @@
+mod Parts
+pub mod Reading
+pub mod Writing

@@ -1,0 +1,3 @@
+pub mod Packed
+pub mod Parts
+pub mod Writing
