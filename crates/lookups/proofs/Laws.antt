@@ -1,7 +1,7 @@
 -- Laws of the writers: texts that one call writes and the templates put together of several; a bump stage before the stage that it displaces.
 use Prim.Native.Nat.{ℕ, _<_}
 use mathlib.Core.Bool.{Bool, true, false, cond}
-use mathlib.Core.Path.{_≡_, refl, sym, subst}
+use mathlib.Core.Path.{_≡_, refl}
 use mathlib.Core.List.{List, append-assoc}
 use Rattle.text.specs.Text.{Text, lit, pick, flat, _⊕_}
 use Rattle.text.specs.Buffer.{Wrote}
@@ -25,10 +25,6 @@ zeroed false = refl
 -- three pieces, and a text behind them
 pub regroup : {l l′ : List ℕ} {a a′ : ℕ} {s t u v : Text} → Wrote l a l′ a′ ((s ⊕ t ⊕ u) ⊕ v) → Wrote l a l′ a′ (s ⊕ t ⊕ u ⊕ v)
 regroup w = same (simp append-assoc) w
-
--- a text that depends on a test
-pub by-test : {l l′ : List ℕ} {a a′ : ℕ} {s : Text} (t : Bool → Text) (b c : Bool) → b ≡ c → flat s ≡ flat (t c) → Wrote l a l′ a′ s → Wrote l a l′ a′ (t b)
-by-test {l} {l′} {a} {a′} t b c e f w = subst (λ (b : Bool). Wrote l a l′ a′ (t b)) (sym e) (same f w)
 
 displaces : (b tex lum : Bool) (n i : ℕ) → n < i → Precedes (cond b (Displacing n tex lum) Ordinary) i
 displaces true tex lum n i h = h

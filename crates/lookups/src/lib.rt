@@ -1,6 +1,5 @@
-//! Lookups: the bits of a variant that choose them, their coordinates, their lines, and the bump stages before them.
-pub mod bits;
+//! The writers of lookups: their coordinates, their lines, and the bump stages before them.
 pub mod bump;
 mod coordinates;
-pub mod lookup;
+mod lookup;
 mod samples;

@@ -1,7 +1,7 @@
 -- The laws of writing: one text behind another is the two joined; a text that fits is written whole; which of two texts; a text's length.
 use Prim.Native.Nat.{ℕ, zero, suc, _+_, _-_, _^_, _<_, _≤_, min}
 use mathlib.Core.Bool.{Bool, true, false, cond}
-use mathlib.Core.Path.{_≡_, refl, ap, sym, _∙_}
+use mathlib.Core.Path.{_≡_, refl, ap, sym, subst, _∙_}
 use mathlib.Core.List.{List, [], _∷_, _++_}
 use native.Mathlib.Omega.{arith, min-cases}
 use native.Mathlib.Nat.{add-zero, zero-add}
@@ -97,6 +97,10 @@ pick-true e w = rw e (record { room = w .room; text = w .text; next = w .next })
 
 pub pick-false : {l l′ : List ℕ} {a a′ : ℕ} {b : Bool} {s t : Text} → b ≡ false → Wrote l a l′ a′ t → Wrote l a l′ a′ (pick b s t)
 pick-false e w = rw e (record { room = w .room; text = w .text; next = w .next })
+
+-- a text that depends on a test
+pub by-test : {l l′ : List ℕ} {a a′ : ℕ} {s : Text} (t : Bool → Text) (b c : Bool) → b ≡ c → flat s ≡ flat (t c) → Wrote l a l′ a′ s → Wrote l a l′ a′ (t b)
+by-test {l} {l′} {a} {a′} t b c e f w = subst (λ (b : Bool). Wrote l a l′ a′ (t b)) (sym e) (same f w)
 
 -- a test of a number that is known
 pub eqb-at : (x m n : ℕ) (b : Bool) → x ≡ m → eqb m n ≡ b → eqb x n ≡ b

@@ -1,10 +1,10 @@
 //! What stands before the function, and the return type.
-use lookups::bits::flat_shade;
-use lookups::bits::sample_mask;
-use lookups::bits::srgb_write;
 use metal::Variant;
 use text::put;
 use text::put_either;
+use variants::bits::flat_shade;
+use variants::bits::sample_mask;
+use variants::bits::srgb_write;
 ghost use Rattle.text.specs.Buffer.{Wrote};
 ghost use Rattle.metal.specs.Whole.{varyingsText, srgbHelperText, fragmentText, frontText};
 

@@ -1,13 +1,13 @@
 //! Specular, fog, alpha test, sRGB and the return.
-use lookups::bits::fog_source_w;
-use lookups::bits::sample_mask;
-use lookups::bits::srgb_write;
-use lookups::bits::tested;
 use metal::Variant;
 use text::put;
 use text::put_decimal;
 use text::put_either;
 use text::put_when;
+use variants::bits::fog_source_w;
+use variants::bits::sample_mask;
+use variants::bits::srgb_write;
+use variants::bits::tested;
 ghost use Rattle.text.specs.Text.{lit, _⊕_};
 ghost use Rattle.text.specs.Buffer.{Wrote};
 ghost use Rattle.metal.specs.Output.{specularText, fogDepthText, fogFactorText, fogText, comparisonText, testText, srgbText, returnText, outputText};

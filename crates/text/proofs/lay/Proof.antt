@@ -1,9 +1,10 @@
-use Prim.Native.Nat.{_-_}
-use mathlib.Core.Path.{_≡_, sym, _∙_}
+use Prim.Native.Nat.{ℕ, _-_}
+use mathlib.Core.Path.{_≡_, ap, sym, _∙_}
+use mathlib.Core.List.{List}
 use native.Mathlib.Omega.{arith}
 use borrow.Author.Needs.{needs}
 use lib.ListN.{length, take}
-use lib.Seq.{take-all}
+use lib.Seq.{sets, take-all}
 use Rattle.text.specs.Marks.{marked}
 use Rattle.text.proofs.Laws.{sets-out, sets-take, length-marked}
 use Rattle.text.proofs.lay.Statement.{statement}
@@ -17,7 +18,7 @@ returns-2 c =
     let a = c .before .before .before .before .before .before .before .before .args in
     let s = marked (a .mark) (a .s .now) in
     let e : take (length (a .s .now)) s ≡ s = take-all (length (a .s .now)) s (rw (length-marked (a .mark) (a .s .now)) (omega arith)) in
-    c .before .before .copy .ensures ∙ rw e
+    c .before .before .copy .ensures ∙ ap (λ (r : List ℕ). sets (a .out .now) (a .at) r) e
 
 returns-3 : tie.Need-returns-3
 returns-3 c =

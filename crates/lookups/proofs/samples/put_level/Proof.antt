@@ -3,7 +3,7 @@ use native.Mathlib.Omega.{arith}
 use Rattle.text.proofs.Laws.{_⨾_, keeps, same}
 use mathlib.Core.Bool.{Bool, true, false}
 use Rattle.metal.specs.Lookups.{levelText}
-use Rattle.lookups.proofs.Laws.{by-test}
+use Rattle.text.proofs.Laws.{by-test}
 use Rattle.lookups.proofs.Lines.{leveled, unleveled}
 use Rattle.lookups.proofs.samples.put_level.Statement.{statement}
 use Rattle.lookups.proofs.samples.put_level.Tie as tie

@@ -3,7 +3,7 @@ use native.Mathlib.Omega.{arith}
 use Rattle.text.proofs.Laws.{_⨾_, keeps, same}
 use mathlib.Core.Bool.{true, false}
 use Rattle.text.proofs.Laws.{nothing}
-use Rattle.lookups.proofs.Laws.{by-test}
+use Rattle.text.proofs.Laws.{by-test}
 use Rattle.metal.specs.Whole.{srgbHelperText}
 use Rattle.writers.proofs.Parts.{helper, no-helper}
 use Rattle.writers.proofs.header.put_srgb_helper.Statement.{statement}

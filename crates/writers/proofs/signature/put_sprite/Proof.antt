@@ -3,7 +3,7 @@ use native.Mathlib.Omega.{arith}
 use Rattle.text.proofs.Laws.{_⨾_, keeps, same}
 use mathlib.Core.Bool.{true, false}
 use Rattle.text.proofs.Laws.{nothing}
-use Rattle.lookups.proofs.Laws.{by-test}
+use Rattle.text.proofs.Laws.{by-test}
 use Rattle.metal.specs.Whole.{spriteText}
 use Rattle.writers.proofs.Parts.{sprites, no-sprites}
 use Rattle.writers.proofs.signature.put_sprite.Statement.{statement}

@@ -1,8 +1,8 @@
 use mathlib.Core.Path.{sym, _∙_}
 use borrow.Author.Needs.{needs}
 use Rattle.metal.specs.Lookups.{textureTypeOf}
-use Rattle.lookups.proofs.lookup.texture_type_of.Statement.{statement}
-use Rattle.lookups.proofs.lookup.texture_type_of.Tie as tie
+use Rattle.variants.proofs.kinds.texture_type_of.Statement.{statement}
+use Rattle.variants.proofs.kinds.texture_type_of.Tie as tie
 
 pub texture-type-of-spec : {M : Type 1} → statement M
 unfolding textureTypeOf

@@ -1,8 +1,8 @@
 use mathlib.Core.Path.{sym, _∙_}
 use borrow.Author.Needs.{needs}
 use Rattle.metal.specs.Lookups.{lookupOf}
-use Rattle.lookups.proofs.lookup.lookup_of.Statement.{statement}
-use Rattle.lookups.proofs.lookup.lookup_of.Tie as tie
+use Rattle.variants.proofs.kinds.lookup_of.Statement.{statement}
+use Rattle.variants.proofs.kinds.lookup_of.Tie as tie
 
 pub lookup-of-spec : {M : Type 1} → statement M
 unfolding lookupOf

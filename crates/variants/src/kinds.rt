@@ -1,0 +1,46 @@
+//! How a stage reads its texture, and the texture's type.
+use crate::bits::bit;
+use metal::Lookup;
+use metal::TextureType;
+use metal::Variant;
+ghost use Prim.Native.Nat.{_<_};
+ghost use mathlib.Core.Path.{_≡_};
+ghost use Rattle.metal.specs.Lookups.{lookupOf, textureTypeOf};
+
+// The first that applies: fetch4, depth fetch, depth compare, plain.
+pub fn lookup_of(v: Variant, i: u8) -> Lookup
+    requires { ⌜ i < 8 ⌝ }
+    ensures { λ r. ⌜ r ≡ lookupOf v i ⌝ }
+{
+    let depth = bit(v.depth_sampler, i);
+    if bit(v.fetch4, i) {
+        let alpha = bit(v.fetch4_alpha, i);
+        return Lookup::Fetch4(!depth && alpha);
+    }
+    if bit(v.depth_fetch, i) {
+        return Lookup::DepthFetch(bit(v.raw_depth_red, i));
+    }
+    if depth {
+        return Lookup::DepthCompare;
+    }
+    let volume = bit(v.volume, i);
+    let cube = bit(v.cube, i);
+    Lookup::Plain(volume || cube)
+}
+
+// The first that applies: depth, volume, cube, flat.
+pub fn texture_type_of(v: Variant, i: u8) -> TextureType
+    requires { ⌜ i < 8 ⌝ }
+    ensures { λ r. ⌜ r ≡ textureTypeOf v i ⌝ }
+{
+    if bit(v.depth_sampler, i) {
+        return TextureType::Depth;
+    }
+    if bit(v.volume, i) {
+        return TextureType::Volume;
+    }
+    if bit(v.cube, i) {
+        return TextureType::Cube;
+    }
+    TextureType::Flat
+}
