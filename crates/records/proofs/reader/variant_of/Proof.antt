@@ -5,7 +5,7 @@ use Rattle.records.proofs.reader.variant_of.Tie as tie
 
 returns : tie.Need-returns
 unfolding variantOf
-returns c = cc
+returns c = rw (c .before .before .before .before .before .mask-at7 .ensures, c .before .before .before .before .before .before .mask-at6 .ensures, c .before .before .before .before .before .before .before .mask-at5 .ensures, c .before .before .before .before .before .before .before .before .mask-at4 .ensures, c .before .before .before .before .before .before .before .before .before .mask-at3 .ensures, c .before .before .before .before .before .before .before .before .before .before .mask-at2 .ensures, c .before .before .before .before .before .before .before .before .before .before .before .mask-at .ensures)
 
 pub variant-of-spec : {M : Type 1} → statement M
 variant-of-spec =
