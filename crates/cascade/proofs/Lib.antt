@@ -1,2 +1,3 @@
 pub mod Active
+pub mod Guards
 pub mod Rest

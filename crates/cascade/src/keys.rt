@@ -1,4 +1,6 @@
 //! What a stage and its combiners say by themselves: textures, reads, fallback, bump, constants; and the count of active stages.
+//!
+//! Most arguments select neither the constant nor TEMP, so each rule asks for that first.
 use crate::Combiner;
 use crate::Key;
 use crate::Stage;
@@ -45,15 +47,21 @@ pub fn selects(selector: u8, arg: u8) -> bool
 pub fn reads(selector: u8, c: Combiner) -> bool
     ensures { λ r. ⌜ r ≡ reads selector c ⌝ }
 {
-    let first = !((c.op == 1) | (c.op == 3)) & selects(selector, c.arg1);
-    let second = !((c.op == 1) | (c.op == 2)) & selects(selector, c.arg2);
-    first | second
+    let one = selects(selector, c.arg1);
+    let two = selects(selector, c.arg2);
+    if !(one | two) {
+        return false;
+    }
+    (!((c.op == 1) | (c.op == 3)) & one) | (!((c.op == 1) | (c.op == 2)) & two)
 }
 
 pub fn falls_back(textured: bool, c: Combiner) -> bool
     ensures { λ r. ⌜ r ≡ fallsBack textured c ⌝ }
 {
-    !textured & reads(2, c)
+    if textured {
+        return false;
+    }
+    reads(2, c)
 }
 
 pub fn is_bump_op(op: u8) -> bool
@@ -66,14 +74,20 @@ pub fn is_bump(s: Stage) -> bool
     ensures { λ r. ⌜ r ≡ bump s ⌝ }
 {
     let c = s.colour;
-    is_bump_op(c.op) & !falls_back(textured(s), c)
+    if !is_bump_op(c.op) {
+        return false;
+    }
+    !falls_back(textured(s), c)
 }
 
 pub fn alpha_from_colour(s: Stage) -> bool
     ensures { λ r. ⌜ r ≡ alphaFromColour s ⌝ }
 {
     let c = s.colour;
-    (c.op == 24) & !falls_back(textured(s), c)
+    if c.op != 24 {
+        return false;
+    }
+    !falls_back(textured(s), c)
 }
 
 pub fn reads_constant(s: Stage) -> bool
@@ -82,9 +96,12 @@ pub fn reads_constant(s: Stage) -> bool
     let c = s.colour;
     let a = s.alpha;
     let t = textured(s);
-    let colour = !falls_back(t, c) & reads(6, c);
-    let alpha = !falls_back(t, a) & reads(6, a);
-    colour | (!alpha_from_colour(s) & alpha)
+    let colour = reads(6, c);
+    let alpha = reads(6, a);
+    if !(colour | alpha) {
+        return false;
+    }
+    (!falls_back(t, c) & colour) | (!alpha_from_colour(s) & (!falls_back(t, a) & alpha))
 }
 
 pub fn names_factor(s: Stage) -> bool

@@ -32,22 +32,33 @@ fn keeps_second(textured: bool, op: u8) -> bool
 fn keeps(selector: u8, textured: bool, c: Combiner) -> bool
     ensures { λ r. ⌜ r ≡ keeps selector textured c ⌝ }
 {
-    let first = keeps_first(textured, c.op) & selects(selector, c.arg1);
-    let second = keeps_second(textured, c.op) & selects(selector, c.arg2);
-    first | second
+    let one = selects(selector, c.arg1);
+    let two = selects(selector, c.arg2);
+    if !(one | two) {
+        return false;
+    }
+    (keeps_first(textured, c.op) & one) | (keeps_second(textured, c.op) & two)
 }
 
 fn reads_temp_by(textured: bool, c: Combiner) -> bool
     ensures { λ r. ⌜ r ≡ readsTempBy textured c ⌝ }
 {
-    !falls_back(textured, c) & keeps(5, textured, c)
+    let kept = keeps(5, textured, c);
+    if !kept {
+        return false;
+    }
+    !falls_back(textured, c) & kept
 }
 
 fn reads_texel_by(textured: bool, c: Combiner) -> bool
     ensures { λ r. ⌜ r ≡ readsTexelBy textured c ⌝ }
 {
     let own = textured & ((c.op == 13) | (c.op == 15));
-    !falls_back(textured, c) & (keeps(2, textured, c) | own)
+    let kept = keeps(2, textured, c) | own;
+    if !kept {
+        return false;
+    }
+    !falls_back(textured, c) & kept
 }
 
 pub fn alpha_written(s: Stage) -> bool
@@ -64,7 +75,12 @@ pub fn reads_temp(s: Stage) -> bool
     let c = s.colour;
     let a = s.alpha;
     let t = textured(s);
-    reads_temp_by(t, c) | (alpha_written(s) & reads_temp_by(t, a))
+    let colour = reads_temp_by(t, c);
+    let alpha = reads_temp_by(t, a);
+    if !(colour | alpha) {
+        return false;
+    }
+    colour | (alpha_written(s) & alpha)
 }
 
 pub fn reads_texel(s: Stage) -> bool
@@ -73,7 +89,14 @@ pub fn reads_texel(s: Stage) -> bool
     let c = s.colour;
     let a = s.alpha;
     let t = textured(s);
-    reads_texel_by(t, c) | (alpha_written(s) & reads_texel_by(t, a))
+    if reads_texel_by(t, c) {
+        return true;
+    }
+    let alpha = reads_texel_by(t, a);
+    if !alpha {
+        return false;
+    }
+    alpha_written(s) & alpha
 }
 
 pub fn is_lined(alive: bool, s: Stage) -> bool

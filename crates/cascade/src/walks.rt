@@ -62,7 +62,12 @@ fn warns_op(s: Stage) -> bool
 {
     let c = s.colour;
     let a = s.alpha;
-    (applies_colour(s) & without_text(c)) | (applies_alpha(s) & without_text(a))
+    let colour = without_text(c);
+    let alpha = without_text(a);
+    if !(colour | alpha) {
+        return false;
+    }
+    (applies_colour(s) & colour) | (applies_alpha(s) & alpha)
 }
 
 fn warns_selector(s: Stage) -> bool
@@ -70,7 +75,12 @@ fn warns_selector(s: Stage) -> bool
 {
     let c = s.colour;
     let a = s.alpha;
-    (applies_colour(s) & unknown_selector(c)) | (applies_alpha(s) & unknown_selector(a))
+    let colour = unknown_selector(c);
+    let alpha = unknown_selector(a);
+    if !(colour | alpha) {
+        return false;
+    }
+    (applies_colour(s) & colour) | (applies_alpha(s) & alpha)
 }
 
 fn warns_modifier(s: Stage) -> bool
@@ -78,7 +88,12 @@ fn warns_modifier(s: Stage) -> bool
 {
     let c = s.colour;
     let a = s.alpha;
-    (applies_colour(s) & unknown_modifier(c)) | (applies_alpha(s) & unknown_modifier(a))
+    let colour = unknown_modifier(c);
+    let alpha = unknown_modifier(a);
+    if !(colour | alpha) {
+        return false;
+    }
+    (applies_colour(s) & colour) | (applies_alpha(s) & alpha)
 }
 
 // 1 or 0.

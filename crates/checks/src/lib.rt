@@ -3,9 +3,9 @@ use cascade::Key;
 use metal::Entry;
 use metal::Variant;
 ghost use mathlib.Core.Path.{_≡_};
-ghost use mathlib.Core.Bool.{_&&_};
+ghost use mathlib.Core.Bool.{_&&_, cond};
 ghost use lib.Dec.{eqb, leb};
-ghost use Rattle.metal.specs.Results.{all, continuesName, entryGood, isLetter, stageFlagsBad, startsName, variantFlagsBad};
+ghost use Rattle.metal.specs.Results.{continuesName, entryGood, isLetter, stageFlagsBad, startsName, variantFlagsBad};
 
 pub fn stage_flags_bad(key: Key) -> bool
     ensures { λ r. ⌜ r ≡ stageFlagsBad (key .stages) ⌝ }
@@ -30,69 +30,53 @@ pub fn variant_flags_bad(variant: Variant) -> bool
 fn between(low: u8, c: u8, high: u8) -> bool
     ensures { λ r. ⌜ r ≡ (leb low c && leb c high) ⌝ }
 {
-    low <= c && c <= high
+    (low <= c) & (c <= high)
 }
 
 fn is_letter(c: u8) -> bool
     ensures { λ r. ⌜ r ≡ isLetter c ⌝ }
 {
-    between(b'A', c, b'Z') || between(b'a', c, b'z')
+    between(b'A', c, b'Z') | between(b'a', c, b'z')
 }
 
 fn starts_name(c: u8) -> bool
     ensures { λ r. ⌜ r ≡ startsName c ⌝ }
 {
-    is_letter(c) || c == b'_'
+    is_letter(c) | (c == b'_')
 }
 
 fn continues_name(c: u8) -> bool
     ensures { λ r. ⌜ r ≡ continuesName c ⌝ }
 {
-    starts_name(c) || between(b'0', c, b'9')
+    starts_name(c) | between(b'0', c, b'9')
 }
 
-fn all_continue(s: &[u8]) -> bool
-    ensures { λ r. ⌜ r ≡ all continuesName (now (s .entry)) ⌝ }
+// Inside the name, a byte that may continue it; behind it, 0.
+fn stands(inside: bool, c: u8) -> bool
+    ensures { λ r. ⌜ r ≡ cond inside (continuesName c) (eqb c 0) ⌝ }
 {
-    let mut i = 0;
-    while i < s.len() {
-        if !continues_name(s[i]) {
-            return false;
-        }
-        i += 1;
-    }
-    true
+    (inside & continues_name(c)) | (!inside & (c == 0))
 }
 
-fn all_zero(s: &[u8]) -> bool
-    ensures { λ r. ⌜ r ≡ all (λ c. eqb c 0) (now (s .entry)) ⌝ }
-{
-    let mut i = 0;
-    while i < s.len() {
-        if s[i] != 0 {
-            return false;
-        }
-        i += 1;
-    }
-    true
-}
-
+// The first byte of a name must start it; all 32 bytes are then tested together.
 pub fn entry_good(entry: Entry) -> bool
     ensures { λ r. ⌜ r ≡ entryGood entry ⌝ }
 {
-    let end = entry.len as usize;
     let name = entry.name;
-    if end == 0 {
+    if entry.len == 0 {
         return false;
     }
-    if 32 < end {
+    if 32 < entry.len {
         return false;
     }
     if !starts_name(name[0]) {
         return false;
     }
-    if !all_continue(&name[1..end]) {
-        return false;
+    let mut good = true;
+    let mut i = 0u8;
+    while i < 32 {
+        good = good & stands(i < entry.len, name[i as usize]);
+        i += 1;
     }
-    all_zero(&name[end..])
+    good
 }

@@ -1,13 +1,17 @@
 -- What an accepted emission answers and writes, from what its parts promise.
-use Prim.Native.Nat.{ℕ, _+_, _-_, _^_, _≤_, _<_, min}
+use Prim.Native.Nat.{ℕ, _+_, _≤_, _<_}
 use mathlib.Core.Bool.{Bool, true, false, not, _&&_, cond, true≢false}
 use mathlib.Core.Path.{_≡_, refl, ap, sym, subst, _∙_}
 use mathlib.Core.List.{List, [], _++_}
+use native.Mathlib.Nat.{zero-add}
 use native.Mathlib.Omega.{arith}
-use borrow.Author.Tests.{le-leb}
+use mathlib.Core.Logic.{by-cases}
+use native.Mathlib.Decide.{decLe}
+use borrow.Author.Tests.{le-leb, lt-leb}
 use lib.Dec.{leb, T, leb→le}
-use lib.ListN.{length, take, drop}
+use lib.ListN.{length, take, drop, length-append, length-drop}
 use lib.Seq.{take-at}
+use Rattle.text.specs.Text.{raw}
 use Rattle.text.specs.Buffer.{Wrote}
 use Rattle.text.proofs.Laws.{whole}
 use Rattle.cascade.specs.Keys.{active}
@@ -28,10 +32,6 @@ use Rattle.metal.proofs.Names.Whole.{demand}
 pub held : (b : Bool) → not b ≡ false → b ≡ true
 held true e = refl
 held false e = absurd (true≢false e)
-
-pub unheld : (b : Bool) → not b ≡ true → b ≡ false
-unheld true e = absurd (true≢false (sym e))
-unheld false e = refl
 
 warnings-le : (a b c : Bool) → cond a 1 0 + cond b 2 0 + cond c 4 0 ≤ 7
 warnings-le true true true = omega arith
@@ -55,28 +55,40 @@ entry-short e h = leb→le (e .len) 32 (go (leb (e .len) 32) _ (subst T (sym h) 
     go true b t = tt
     go false b t = absurd t
 
--- the place behind a whole text is its length, where a buffer of that length can be
-pub placed : {l l′ : List ℕ} {at : ℕ} (k : Key) (v : Variant) (e : Entry) → Wrote l 0 l′ at (wholeText k v e) → length (textOf k v e) < 2 ^ 63
-    → at ≡ length (textOf k v e)
-placed k v e w h = let n = w .next in omega arith
+-- a whole text in a buffer with room for it
+pub placed : {l l′ : List ℕ} {at : ℕ} (k : Key) (v : Variant) (e : Entry) → Wrote l 0 l′ at (wholeText k v e) → length (textOf k v e) ≤ length l
+    → (at ≡ length (textOf k v e)) × (l′ ≡ textOf k v e ++ drop (length (textOf k v e)) l)
+placed k v e w h = (w .fits (rw zero-add h) .1 ∙ rw zero-add, whole w h)
 
--- measured against a buffer that is shorter than the longest text
-pub measured : {l l′ : List ℕ} {at : ℕ} (k : Key) (v : Variant) (e : Entry) (room : ℕ) → Wrote l 0 l′ at (wholeText k v e)
-    → length (textOf k v e) ≤ 16384 → leb at room ≡ leb (length (textOf k v e)) room
-measured k v e room w h = ap (λ (n : ℕ). leb n room) (placed k v e w (omega arith))
+-- a text laid to the front of a buffer, if it fits
+abbrev Laid : List ℕ → List ℕ → List ℕ → Type 0
+Laid t out out′ = out′ ≡ cond (leb (length t) (length out)) (t ++ drop (length t) out) out
 
-pub within-room : (n room : ℕ) {b : Bool} → b ≡ leb n room → b ≡ true → n ≤ room
-within-room n room e t = leb→le n room (subst T (sym (sym e ∙ t)) tt)
+pub laid-whole : (t out : List ℕ) {out′ : List ℕ} → length t ≤ length out → out′ ≡ t ++ drop (length t) out → Laid t out out′
+laid-whole t out h e = e ∙ rw (le-leb _ _ h)
 
-pub beyond-room : (n room : ℕ) {b : Bool} → b ≡ leb n room → b ≡ false → room < n
-beyond-room n room e f = go (leb n room) (sym e ∙ f) (le-leb n room)
+pub laid-not : (t out : List ℕ) → length out < length t → Laid t out out
+laid-not t out h = rw (lt-leb _ _ h)
+
+-- copied from the front of another buffer
+pub laid-copy : (t out aside rest : List ℕ) {out′ : List ℕ} {n at : ℕ} → n ≡ length t → aside ≡ t ++ rest → length t ≤ length out
+    → Wrote out 0 out′ at (raw (take n aside)) → Laid t out out′
+laid-copy t out aside rest e f h w = laid-whole t out h (whole (rw (f, take-at t rest _ (sym e)) at w) h)
+
+pub laid-length : (t out : List ℕ) {out′ : List ℕ} → Laid t out out′ → length out′ ≡ length out
+laid-length t out e = ap length e ∙ by-cases (decLe (length t) (length out)) fits over
   where
-    go : (b : Bool) → b ≡ false → (n ≤ room → b ≡ true) → room < n
-    go true h k = absurd (true≢false h)
-    go false h k = not-le λ q. true≢false (sym (k q))
-      where
-        not-le : (n ≤ room → ⊥) → room < n
-        not-le q = omega arith
+    fits : length t ≤ length out → length (cond (leb (length t) (length out)) (t ++ drop (length t) out) out) ≡ length out
+    fits h = rw (le-leb _ _ h) (simp length-append (simp length-drop (omega arith)))
+
+    over : (length t ≤ length out → ⊥) → length (cond (leb (length t) (length out)) (t ++ drop (length t) out) out) ≡ length out
+    over h = let k : length out < length t = omega (arith, h) in rw (lt-leb _ _ k)
+
+pub laid-fits : (t out : List ℕ) {out′ : List ℕ} → length t ≤ length out → Laid t out out′ → out′ ≡ t ++ drop (length t) out
+laid-fits t out h e = e ∙ rw (le-leb _ _ h)
+
+pub laid-over : (t out : List ℕ) {out′ : List ℕ} → length out < length t → Laid t out out′ → out′ ≡ out
+laid-over t out h e = e ∙ rw (lt-leb _ _ h)
 
 pub accepted : (k : Key) (v : Variant) (e : Entry) (u : Survey) (at lookups warning : ℕ) → u ≡ surveyOf (k .stages) → at ≡ length (textOf k v e)
     → lookups ≡ lookupsOf (u .live) (active (k .stages)) → warning ≡ u .warning + cond (leb 9 (v .«alpha_func»)) 8 0

@@ -9,12 +9,17 @@ pub use metal::Emitted;
 pub use metal::Entry;
 pub use metal::Refusal;
 pub use metal::Variant;
+use text::put;
+use whole::Place;
 use whole::put_whole;
 ghost use Prim.Native.Nat.{_≤_, _+_};
 ghost use mathlib.Core.Path.{_≡_};
 ghost use mathlib.Core.Bool.{cond};
 ghost use lib.Dec.{leb};
-ghost use lib.ListN.{length};
+ghost use mathlib.Core.List.{_++_};
+ghost use lib.ListN.{length, drop};
+ghost use Rattle.cascade.specs.Keys.{active};
+ghost use Rattle.cascade.specs.Reading.{lookupsOf};
 ghost use Rattle.cascade.specs.Survey.{surveyOf};
 ghost use Rattle.metal.specs.Results.{answerOf, bufferAfter, frontOf, textOf};
 ghost use Rattle.metal.specs.Demand.{Demanded};
@@ -30,17 +35,23 @@ fn warning_of(stages: u8, alpha_func: u8) -> u8
     stages
 }
 
-// Whether the text has at most room bytes. No text is longer than 16,384 bytes, so only a shorter buffer has to be measured for.
-fn fits(k: Key, v: Variant, e: Entry, u: Survey, room: usize) -> bool
+// Writes the text to the front of out, if it fits; else out stays. No text is longer than 16,384 bytes: a buffer of that length takes it at
+// once, and for a shorter one it is written aside.
+fn put_text(out: &mut [u8], k: Key, v: Variant, e: Entry, u: Survey) -> Place
     requires { ⌜ (u ≡ surveyOf (k .stages)) × (e .len ≤ 32) ⌝ }
-    ensures { λ r. ⌜ r ≡ leb (length (textOf k v e)) room ⌝ }
+    ensures place { λ r. ⌜ r .at ≡ length (textOf k v e) ⌝ }
+    ensures buffer { λ _. ⌜ now (out .exit) ≡ cond (leb (length (textOf k v e)) (length (now (out .entry)))) (textOf k v e ++ drop (length (textOf k v e)) (now (out .entry))) (now (out .entry)) ⌝ }
+    ensures lookups { λ r. ⌜ r .lookups ≡ lookupsOf (u .live) (active (k .stages)) ⌝ }
 {
-    if 16384 <= room {
-        return true;
+    if 16384 <= out.len() {
+        return put_whole(out, k, v, e, u);
     }
-    let mut none = [0u8; 0];
-    let measured = put_whole(&mut none, k, v, e, u);
-    measured.at <= room
+    let mut aside = [0u8; 16384];
+    let w = put_whole(&mut aside, k, v, e, u);
+    if w.at <= out.len() {
+        put(out, 0, &aside[..w.at]);
+    }
+    w
 }
 
 // Writes the text of a key, a variant and an entry to the front of out; bytes behind it stay. A refusal leaves out as it was.
@@ -59,10 +70,10 @@ pub fn emit(key: Key, variant: Variant, entry: Entry, out: &mut [u8]) -> Answer
         return Answer::Refused(Refusal::EntryName);
     }
     let u = survey(key);
-    if !fits(key, variant, entry, u, out.len()) {
+    let written = put_text(out, key, variant, entry, u);
+    if out.len() < written.at {
         return Answer::Refused(Refusal::TextTooLong);
     }
-    let written = put_whole(out, key, variant, entry, u);
     let warning = warning_of(u.warning, variant.alpha_func);
     Answer::Text(Emitted {
         length: written.at,

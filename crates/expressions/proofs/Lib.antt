@@ -1,2 +1,2 @@
-pub mod Blends
+pub mod Texels
 pub mod Lines

@@ -1,3 +1,7 @@
-//! Expressions and the line of a stage, written.
-pub mod combine;
+//! The writers of expressions and of the lines that hold them.
+mod blends;
+mod combine;
 pub mod line;
+mod mixed;
+mod products;
+mod sums;

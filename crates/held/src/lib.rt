@@ -124,8 +124,8 @@ fn refusal_of(refusal: emission::Refusal) -> Refusal
     }
 }
 
-// An emit record that took n bytes.
-fn emit_held(held: Held, n: usize, text: &mut [u8]) -> ApplyAnswer
+// An emit record that took n bytes. A refusal leaves text as it was.
+pub fn emit_held(held: Held, n: usize, text: &mut [u8]) -> ApplyAnswer
     ensures answer { λ r. ⌜ r ≡ applyAs Kind.Emit n held (length (now (text .entry))) ⌝ }
     ensures buffer { λ r. ⌜ now (text .exit) ≡ textAfter r held (now (text .entry)) ⌝ }
     ensures names { λ r. ⌜ Demanded r (now (text .exit)) ⌝ }

@@ -1,3 +1,2 @@
-mod Parts
 pub mod Reading
 pub mod Writing

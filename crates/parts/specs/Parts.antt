@@ -11,7 +11,6 @@ use Rattle.records.specs.Reading.{readRecord}
 use Rattle.records.specs.Refusals.{numberOf}
 use Rattle.records.specs.declared.ReadAnswer.{ReadAnswer}
 use Rattle.records.specs.declared.ReadAnswer.the-variants.{Took, Refused}
-use Rattle.parts.specs.declared.Part.{Part}
 
 -- 01's number of the reader's refusal, 0 for none
 abbrev pub readNumber : ReadAnswer → ℕ
@@ -24,9 +23,6 @@ unfoldable pub partNumber : ℕ → ℕ → List ℕ → ℕ
 partNumber kind size b =
     cond (eqb (length b) 0) (readNumber (readRecord b .answer))
     (cond (eqb (getD b 0 0) kind) (cond (eqb (length b) size) (readNumber (readRecord b .answer)) 1) 2)
-
-abbrev pub partOf : ℕ → ℕ → List ℕ → Part
-partOf kind size b = record { number = partNumber kind size b; found = readRecord b .found }
 
 -- 01's kind bytes 1, 2 and 3, and bodies of 58, 19 and 33 bytes
 abbrev pub keyNumber : List ℕ → ℕ

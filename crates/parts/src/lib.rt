@@ -3,18 +3,12 @@ pub mod read;
 pub mod write;
 
 use records::ReadAnswer;
-use records::Record;
 use records::Refusal;
 use records::number;
 ghost use mathlib.Core.Path.{_≡_};
-ghost use Rattle.parts.specs.Parts.{partOf, readNumber};
+ghost use Rattle.parts.specs.Parts.{partNumber, readNumber};
+ghost use Rattle.records.specs.Reading.{readRecord};
 ghost use Rattle.records.specs.Refusals.{numberOf};
-
-// What was read of a lent record: the number of its refusal, 0 for none, and the record.
-pub struct Part {
-    pub number: u64,
-    pub found: Record,
-}
 
 // 01's number of a refusal.
 pub fn number_of(cause: Refusal) -> u64
@@ -33,34 +27,20 @@ fn read_number(answer: ReadAnswer) -> u64
     }
 }
 
-// The record of a kind, of size bytes, alone in a lent part.
-pub fn read_part(kind: u8, size: usize, bytes: &[u8]) -> Part
-    ensures { λ r. ⌜ r ≡ partOf kind size (now (bytes .entry)) ⌝ }
+// The number of the refusal of lent bytes that are to be one record of a kind, of size bytes, by what the reader answered of them; 0 for none.
+pub fn part_number(kind: u8, size: usize, bytes: &[u8], answer: ReadAnswer) -> u64
+    requires { ⌜ answer ≡ readRecord (now bytes) .answer ⌝ }
+    ensures { λ r. ⌜ r ≡ partNumber kind size (now (bytes .entry)) ⌝ }
 {
-    let reading = records::reader::read(bytes);
-    let found = reading.found;
-    let answer = reading.answer;
     let n = read_number(answer);
     if bytes.len() == 0 {
-        return Part {
-            number: n,
-            found: found,
-        };
+        return n;
     }
     if bytes[0] != kind {
-        return Part {
-            number: 2,
-            found: found,
-        };
+        return 2;
     }
     if bytes.len() != size {
-        return Part {
-            number: 1,
-            found: found,
-        };
+        return 1;
     }
-    Part {
-        number: n,
-        found: found,
-    }
+    n
 }

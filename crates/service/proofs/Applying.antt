@@ -8,31 +8,43 @@ use borrow.Author.Tests.{eq-eqb, ne-eqb}
 use lib.Dec.{eqb}
 use mir.Syntax.{w64}
 use mir.Val.{Fits}
-use lib.ListN.{length, take, getD}
+use lib.ListN.{length, take}
 use lib.Seq.{sets}
 use Rattle.metal.specs.Results.{answerOf}
 use Rattle.metal.specs.declared.Answer.{Answer}
 use Rattle.metal.specs.declared.Answer.the-variants as emission-answer
-use Rattle.held.specs.Applying.{holdsAll, emissionAnswer, applyAs, applyRead, applyAnswer, applied, textAfter}
+use Rattle.held.specs.Applying.{holdsAll, emissionAnswer, applyAs, applyRead, applyAnswer, textAfter}
+use Rattle.records.specs.Bodies.{kindByte, recordLength}
 use Rattle.records.specs.Reading.{readRecord}
 use Rattle.records.specs.declared.Kind.{Kind}
 use Rattle.records.specs.declared.Kind.the-variants as kind
-use Rattle.records.specs.declared.Record.{Record}
+use Rattle.records.specs.declared.Refusal.{Refusal}
 use Rattle.records.specs.declared.Refusal.the-variants.{EmitTooEarly}
-use Rattle.records.specs.declared.ReadAnswer.{ReadAnswer}
+use Rattle.records.specs.declared.Reading.{Reading}
 use Rattle.records.specs.declared.ReadAnswer.the-variants as read
 use Rattle.held.specs.declared.Held.{Held}
 use Rattle.held.specs.declared.ApplyAnswer.{ApplyAnswer}
 use Rattle.held.specs.declared.ApplyAnswer.the-variants.{Replaced, Text, Refused}
-use Rattle.held.specs.declared.Applied.{Applied}
-use Rattle.records.proofs.RoundTrips.{Bytes, read-rewrites}
-use Rattle.parts.specs.Parts.{partOf}
-use Rattle.parts.specs.declared.Part.{Part}
-use Rattle.parts.proofs.Reading.{took-small}
+use Rattle.records.proofs.RoundTrips.{Bytes}
+use Rattle.parts.specs.Parts.{keyNumber, variantNumber, entryNumber}
 use Rattle.service.specs.Applying.{keyPart, variantPart, entryPart, heldOf, answerTo, placeOf, replacedBytes, heldAfter}
 use Rattle.service.specs.Packed.{packedApplied}
-use Rattle.service.specs.declared.apply.Outcome.{Outcome}
 use Rattle.service.proofs.Emitting.{lengthIn, length-most}
+use Rattle.service.proofs.Held.{read-shaped, front, size, first}
+
+-- the values of the held parts
+pub held-is : (b : List ℕ) {x y z : Reading} {k v e : ℕ} → x ≡ readRecord (keyPart b) → y ≡ readRecord (variantPart b) → z ≡ readRecord (entryPart b)
+    → k ≡ keyNumber (keyPart b) → v ≡ variantNumber (variantPart b) → e ≡ entryNumber (entryPart b) →
+    record {
+      «has_key» = eqb k 0;
+      key = x .found .key;
+      «has_variant» = eqb v 0;
+      variant = y .found .variant;
+      «has_entry» = eqb e 0;
+      entry = z .found .entry;
+    } ≡ heldOf b
+unfolding heldOf
+held-is b p q r k v e = rw (p, q, r, k, v, e)
 
 -- the bytes that an answer counts, and the length of its text
 abbrev pub tookOf : ApplyAnswer → ℕ
@@ -45,88 +57,48 @@ lengthOf (Replaced n) = 0
 lengthOf (Text n m) = m .length
 lengthOf (Refused c) = 0
 
-replaced-took : (a : ApplyAnswer) → replacedBytes a ≤ tookOf a
-replaced-took (Replaced n) = omega arith
-replaced-took (Text n m) = omega arith
-replaced-took (Refused c) = omega arith
+-- An emit record counts its own bytes at most, and its text is at most 16,384 bytes long.
+abbrev Small : ℕ → ApplyAnswer → Type 0
+Small n a = (tookOf a ≤ n) × (lengthOf a ≤ 16384)
 
-emit-took : (b : Bool) (x : Answer) (n : ℕ) → tookOf (cond b (emissionAnswer n x) (Refused EmitTooEarly)) ≤ n
-emit-took true (emission-answer.Text m) n = omega arith
-emit-took true (emission-answer.Refused c) n = omega arith
-emit-took false x n = omega arith
+emit-small : (b : Bool) (x : Answer) (n : ℕ) → lengthIn x ≤ 16384 → Small n (cond b (emissionAnswer n x) (Refused EmitTooEarly))
+emit-small true (emission-answer.Text m) n h = (omega arith, h)
+emit-small true (emission-answer.Refused c) n h = (omega arith, omega arith)
+emit-small false x n h = (omega arith, omega arith)
 
-as-took : (k : Kind) (n : ℕ) (h : Held) (room : ℕ) → tookOf (applyAs k n h room) ≤ n
-unfolding applyAs
-as-took kind.Key n h room = omega arith
-as-took kind.Variant n h room = omega arith
-as-took kind.Entry n h room = omega arith
-as-took kind.Emit n h room = emit-took (holdsAll h) (answerOf (h .key) (h .variant) (h .entry) room) n
+module _ (b : List ℕ) {h : Held} (z : h ≡ heldOf b) (n room : ℕ) where
+  shaped : (length (heldOf b .key .stages) ≡ 8) × (length (heldOf b .entry .name) ≡ 32)
+  unfolding heldOf
+  shaped = (read-shaped (keyPart b) .stages, read-shaped (entryPart b) .name)
 
--- no more than the reader took
-read-took : (a : ReadAnswer) (r : Record) (h : Held) (room m : ℕ) → ((n : ℕ) → a ≡ read.Took n → n ≤ m) → tookOf (applyRead a r h room) ≤ m
-unfolding applyRead
-read-took (read.Took n) r h room m f = omega (arith, as-took (r .kind) n h room, f n refl)
-read-took (read.Refused c) r h room m f = omega arith
+  small : Small n (applyAs kind.Emit n h room)
+  unfolding applyAs
+  small = rw z (emit-small (holdsAll (heldOf b)) (answerOf (heldOf b .key) (heldOf b .variant) (heldOf b .entry) room) n (length-most (heldOf b .key) (heldOf b .variant) (heldOf b .entry) room (shaped .0) (shaped .1)))
 
-emit-length : (b : Bool) (x : Answer) (n : ℕ) → lengthIn x ≤ 16384 → lengthOf (cond b (emissionAnswer n x) (Refused EmitTooEarly)) ≤ 16384
-emit-length true (emission-answer.Text m) n h = h
-emit-length true (emission-answer.Refused c) n h = omega arith
-emit-length false x n h = omega arith
+  -- its answer, packed, has room in 64 bits
+  module _ {x a : ApplyAnswer} (p : x ≡ applyAs kind.Emit n h room) (t : x ≡ a) (l : n ≤ 59) where
+    its : Small n a
+    its = rw (sym p ∙ t) at small
 
-as-length : (k : Kind) (n : ℕ) (h : Held) (room : ℕ) → lengthIn (answerOf (h .key) (h .variant) (h .entry) room) ≤ 16384 → lengthOf (applyAs k n h room) ≤ 16384
-unfolding applyAs
-as-length kind.Key n h room l = omega arith
-as-length kind.Variant n h room l = omega arith
-as-length kind.Entry n h room l = omega arith
-as-length kind.Emit n h room l = emit-length (holdsAll h) (answerOf (h .key) (h .variant) (h .entry) room) n l
+    pub count-fits : Fits w64 (72057594037927936 * tookOf a)
+    count-fits = record { fits = omega (arith, its .0) }
 
-read-length : (a : ReadAnswer) (r : Record) (h : Held) (room : ℕ) → lengthIn (answerOf (h .key) (h .variant) (h .entry) room) ≤ 16384 → lengthOf (applyRead a r h room) ≤ 16384
-unfolding applyRead
-read-length (read.Took n) r h room l = as-length (r .kind) n h room l
-read-length (read.Refused c) r h room l = omega arith
+    pub sum-fits : {m : ℕ} → m < 72057594037927936 → Fits w64 (m + 72057594037927936 * tookOf a)
+    sum-fits k = record { fits = omega (arith, its .0) }
 
--- the values of the held parts
-pub held-is : (b : List ℕ) {k v e : Part} → k ≡ partOf 1 59 (keyPart b) → v ≡ partOf 2 20 (variantPart b) → e ≡ partOf 3 34 (entryPart b) →
-    record {
-      «has_key» = eqb (k .number) 0;
-      key = k .found .key;
-      «has_variant» = eqb (v .number) 0;
-      variant = v .found .variant;
-      «has_entry» = eqb (e .number) 0;
-      entry = e .found .entry;
-    } ≡ heldOf b
-unfolding heldOf
-held-is b p q r = rw (p, q, r)
+    pub text-short : lengthOf a < 65536
+    text-short = omega (arith, its .1)
 
--- what is answered and left where a record is applied to values
-abbrev Outcome-of : Held → List ℕ → List ℕ → ℕ → ℕ → List ℕ → Type 0
-Outcome-of h b out m k out′ =
-    (m ≡ packedApplied (applyAnswer h b (length out))) × ((k ≡ replacedBytes (applyAnswer h b (length out))) × (out′ ≡ textAfter (applyAnswer h b (length out)) h out))
+-- what an emit record answers and writes
+pub emitted-from : (b out : List ℕ) (n : ℕ) {h : Held} {x a : ApplyAnswer} {m : ℕ} {out′ : List ℕ} → h ≡ heldOf b → x ≡ applyAs kind.Emit n h (length out) → x ≡ a
+    → m ≡ packedApplied a → out′ ≡ textAfter x h out
+    → (m ≡ packedApplied (applyAs kind.Emit n (heldOf b) (length out))) × (out′ ≡ textAfter (applyAs kind.Emit n (heldOf b) (length out)) (heldOf b) out)
+emitted-from b out n {h} e p t q r = (
+  q ∙ ap packedApplied (sym t ∙ p) ∙ ap (λ (y : Held). packedApplied (applyAs kind.Emit n y (length out))) e,
+  r ∙ ap (λ (y : ApplyAnswer). textAfter y h out) p ∙ ap (λ (y : Held). textAfter (applyAs kind.Emit n y (length out)) y out) e,
+)
 
-module _ (h : Held) (b out : List ℕ) {x : Applied} (p : x ≡ applied h b (length out)) {a : ApplyAnswer} (t : x .answer ≡ a) where
-  is : applyAnswer h b (length out) ≡ a
-  is = sym (ap (λ (y : Applied). y .answer) p) ∙ t
-
-  counted : Bytes b → tookOf a ≤ 59
-  counted w = rw is at (read-took (readRecord b .answer) (readRecord b .found) h (length out) 59 (λ n e. took-small b w refl e))
-
-  pub count-fits : Bytes b → Fits w64 (72057594037927936 * tookOf a)
-  count-fits w = let c = counted w in record { fits = omega arith }
-
-  pub sum-fits : {m : ℕ} → m < 72057594037927936 → Bytes b → Fits w64 (m + 72057594037927936 * tookOf a)
-  sum-fits l w = let c = counted w in record { fits = omega arith }
-
-  text-most : length (h .key .stages) ≡ 8 → length (h .entry .name) ≡ 32 → lengthOf a ≤ 16384
-  text-most s n = rw is at (read-length (readRecord b .answer) (readRecord b .found) h (length out) (length-most (h .key) (h .variant) (h .entry) (length out) s n))
-
-  pub text-short : length (h .key .stages) ≡ 8 → length (h .entry .name) ≡ 32 → lengthOf a < 65536
-  text-short s n = let l = text-most s n in omega arith
-
-  pub outcome : {m k : ℕ} {out′ : List ℕ} → m ≡ packedApplied a → k ≡ replacedBytes a → out′ ≡ textAfter (x .answer) h out →
-      Outcome-of h b out m k out′
-  outcome q r l = (q ∙ ap packedApplied (sym is), (r ∙ ap replacedBytes (sym is), l ∙ ap (λ (y : Applied). textAfter (y .answer) h out) p))
-
--- what is answered and left where it is applied to held bytes
+-- what is answered and left where a record is applied to held bytes
 module _ (held b out : List ℕ) where
   abbrev Answered : ℕ → List ℕ → List ℕ → Type 0
   Answered m held′ out′ =
@@ -137,18 +109,52 @@ module _ (held b out : List ℕ) where
   unfolding answerTo packedApplied
   wrong-length h = rw (ne-eqb (length held) 113 h) (refl, (refl, refl))
 
-  module _ {h : Held} (p : h ≡ heldOf held) {o : Outcome} {out′ : List ℕ} (e : Outcome-of h b out (o .number) (o .replaced) out′) where
-    pub replaced-within : Bytes b → o .replaced ≤ length b
-    replaced-within w =
-        let t = read-took (readRecord b .answer) (readRecord b .found) h (length out) (length b) (λ n a. read-rewrites b n w a .within) in
-        omega (arith, replaced-took (applyAnswer h b (length out)), e .1 .0)
-
-    pub answered : {held′ : List ℕ} → length held ≡ 113 → held′ ≡ sets held (placeOf (getD b 0 0)) (take (o .replaced) b) → Answered (o .number) held′ out′
+  module _ (g : length held ≡ 113) {r : Reading} (p : r ≡ readRecord b) where
+    answered : (a : ApplyAnswer) {m : ℕ} {held′ out′ : List ℕ} → applyAnswer (heldOf held) b (length out) ≡ a
+        → m ≡ packedApplied a → held′ ≡ heldAfter a held b → out′ ≡ textAfter a (heldOf held) out → Answered m held′ out′
     unfolding answerTo
-    answered g l =
-        let a : answerTo held b (length out) ≡ applyAnswer h b (length out) = rw (eq-eqb (length held) 113 g, p) in
-        (e .0 ∙ ap packedApplied (sym a), (l ∙ rw (e .1 .0, a), e .1 .1 ∙ rw (a, p)))
+    answered a e k l q = rw (eq-eqb (length held) 113 g, e) (k, (l, q))
 
-    -- nothing is held anew
-    pub answered-none : length held ≡ 113 → o .replaced ≤ 0 → Answered (o .number) held out′
-    answered-none g l = let n : o .replaced ≡ 0 = omega arith in answered g (rw n refl)
+    pub answered-refused : {c : Refusal} {m : ℕ} → r .answer ≡ read.Refused c → m ≡ packedApplied (Refused c) → Answered m held out
+    unfolding applyRead
+    answered-refused {c} t k = answered (Refused c) (rw (← p, t)) k refl refl
+
+    module _ {n : ℕ} (t : r .answer ≡ read.Took n) (w : Bytes b) {k : Kind} (f : r .found .kind ≡ k) where
+      took : readRecord b .answer ≡ read.Took n
+      took = ap (λ (x : Reading). x .answer) (sym p) ∙ t
+
+      named : readRecord b .found .kind ≡ k
+      named = ap (λ (x : Reading). x .found .kind) (sym p) ∙ f
+
+      long : n ≡ recordLength k
+      long = size b w took k named
+
+      pub short : recordLength k ≤ 59 → n ≤ 59
+      short h = omega (arith, long)
+
+      -- its part has room for it
+      pub room-for : (at : ℕ) → at + recordLength k ≤ 113 → recordLength k ≤ 59 → (at + n ≤ length held) × (n ≤ length b) × (n ≤ 59)
+      room-for at h l = (omega (arith, long, g), front b w took .within, omega (arith, long))
+
+      is : applyAnswer (heldOf held) b (length out) ≡ applyAs k n (heldOf held) (length out)
+      unfolding applyRead
+      is = rw (took, named)
+
+      -- a value's record is held
+      pub answered-held : {at m : ℕ} {held′ : List ℕ} → applyAs k n (heldOf held) (length out) ≡ Replaced n → at ≡ placeOf (kindByte k)
+          → m ≡ packedApplied (Replaced n) → held′ ≡ sets held at (take n b) → Answered m held′ out
+      answered-held {at} a e q l = answered (Replaced n) (is ∙ a) q (l ∙ rw (e, sym (first b w took k named))) refl
+
+      pub answered-emit : {m : ℕ} {out′ : List ℕ} → replacedBytes (applyAs k n (heldOf held) (length out)) ≡ 0
+          → m ≡ packedApplied (applyAs k n (heldOf held) (length out)) → out′ ≡ textAfter (applyAs k n (heldOf held) (length out)) (heldOf held) out → Answered m held out′
+      answered-emit z q l = answered (applyAs k n (heldOf held) (length out)) is q (rw z refl) l
+
+emit-none : (b : Bool) (x : Answer) (n : ℕ) → replacedBytes (cond b (emissionAnswer n x) (Refused EmitTooEarly)) ≡ 0
+emit-none true (emission-answer.Text m) n = refl
+emit-none true (emission-answer.Refused c) n = refl
+emit-none false x n = refl
+
+-- an emit record holds nothing anew
+pub emit-holds-none : (h : Held) (n room : ℕ) → replacedBytes (applyAs kind.Emit n h room) ≡ 0
+unfolding applyAs
+emit-holds-none h n room = emit-none (holdsAll h) (answerOf (h .key) (h .variant) (h .entry) room) n

@@ -16,8 +16,9 @@ use Rattle.metal.specs.declared.Refusal.the-variants.{StageFlags, VariantFlags,
 use Rattle.metal.specs.declared.Answer.{Answer}
 use Rattle.metal.specs.declared.Answer.the-variants.{Text, Refused}
 use Rattle.metal.proofs.Length.{at-most}
-use Rattle.parts.specs.Parts.{partOf}
-use Rattle.parts.specs.declared.Part.{Part}
+use Rattle.records.specs.Reading.{readRecord}
+use Rattle.records.specs.declared.Reading.{Reading}
+use Rattle.parts.specs.Parts.{keyNumber, variantNumber, entryNumber}
 use Rattle.service.specs.Emitting.{partsNumber, emitted, emittedBuffer}
 use Rattle.service.specs.Packed.{packed}
 
@@ -63,36 +64,30 @@ module _ (k v e out : List ℕ) where
   abbrev Answered : ℕ → Type 0
   Answered n = (n ≡ emitted k v e (length out)) × (out ≡ emittedBuffer k v e out)
 
-  module _ {a : Part} (p : a ≡ partOf 1 59 k) where
-    pub key-refused : 0 < a .number → Answered (a .number)
+  module _ {a : ℕ} (p : a ≡ keyNumber k) where
+    pub key-refused : 0 < a → Answered a
     unfolding partsNumber
-    key-refused h =
-        let n : partsNumber k v e ≡ a .number = rw (← ap (λ (x : Part). x .number) p, lt-ltb 0 (a .number) h) in
-        (refused n h, kept n h)
+    key-refused h = let n : partsNumber k v e ≡ a = rw (← p, lt-ltb 0 a h) in (refused n h, kept n h)
 
-    module _ {b : Part} (q : b ≡ partOf 2 20 v) (i : a .number ≤ 0) where
-      pub variant-refused : 0 < b .number → Answered (b .number)
+    module _ {b : ℕ} (q : b ≡ variantNumber v) (i : a ≤ 0) where
+      pub variant-refused : 0 < b → Answered b
       unfolding partsNumber
-      variant-refused h =
-          let n : partsNumber k v e ≡ b .number = rw (← ap (λ (x : Part). x .number) p, le-ltb 0 (a .number) i, ← ap (λ (x : Part). x .number) q, lt-ltb 0 (b .number) h) in
-          (refused n h, kept n h)
+      variant-refused h = let n : partsNumber k v e ≡ b = rw (← p, le-ltb 0 a i, ← q, lt-ltb 0 b h) in (refused n h, kept n h)
 
-      module _ {c : Part} (r : c ≡ partOf 3 34 e) (j : b .number ≤ 0) where
-        pub entry-refused : 0 < c .number → Answered (c .number)
+      module _ {c : ℕ} (r : c ≡ entryNumber e) (j : b ≤ 0) where
+        pub entry-refused : 0 < c → Answered c
         unfolding partsNumber
-        entry-refused h =
-            let n : partsNumber k v e ≡ c .number = rw (← ap (λ (x : Part). x .number) p, le-ltb 0 (a .number) i, ← ap (λ (x : Part). x .number) q, le-ltb 0 (b .number) j, ← ap (λ (x : Part). x .number) r, lt-ltb 0 (c .number) h) in
-            (refused n h, kept n h)
+        entry-refused h = let n : partsNumber k v e ≡ c = rw (← p, le-ltb 0 a i, ← q, le-ltb 0 b j, ← r, lt-ltb 0 c h) in (refused n h, kept n h)
 
         -- every part is a record
-        none-refused : c .number ≤ 0 → partsNumber k v e ≡ 0
+        none-refused : c ≤ 0 → partsNumber k v e ≡ 0
         unfolding partsNumber
-        none-refused l = rw (← ap (λ (x : Part). x .number) p, le-ltb 0 (a .number) i, ← ap (λ (x : Part). x .number) q, le-ltb 0 (b .number) j, ← ap (λ (x : Part). x .number) r, le-ltb 0 (c .number) l)
+        none-refused l = rw (← p, le-ltb 0 a i, ← q, le-ltb 0 b j, ← r, le-ltb 0 c l)
 
-        pub answered : {n : ℕ} {out′ : List ℕ} → c .number ≤ 0
-            → (n ≡ packed (answerOf (a .found .key) (b .found .variant) (c .found .entry) (length out)))
-            × (out′ ≡ bufferAfter (answerOf (a .found .key) (b .found .variant) (c .found .entry) (length out)) (textOf (a .found .key) (b .found .variant) (c .found .entry)) out)
+        pub answered : {n : ℕ} {out′ : List ℕ} {x y z : Reading} → c ≤ 0 → x ≡ readRecord k → y ≡ readRecord v → z ≡ readRecord e
+            → (n ≡ packed (answerOf (x .found .key) (y .found .variant) (z .found .entry) (length out)))
+            × (out′ ≡ bufferAfter (answerOf (x .found .key) (y .found .variant) (z .found .entry) (length out)) (textOf (x .found .key) (y .found .variant) (z .found .entry)) out)
             → (n ≡ emitted k v e (length out)) × (out′ ≡ emittedBuffer k v e out)
         unfolding emitted emittedBuffer
-        answered l s =
-            rw (none-refused l, ← ap (λ (x : Part). x .found .key) p, ← ap (λ (x : Part). x .found .variant) q, ← ap (λ (x : Part). x .found .entry) r) s
+        answered l f g h s =
+            rw (none-refused l, ← ap (λ (x : Reading). x .found .key) f, ← ap (λ (x : Reading). x .found .variant) g, ← ap (λ (x : Reading). x .found .entry) h) s

@@ -85,21 +85,21 @@ named-shaped n b =
     (pick-shaped (eqb n 3) (readAs kind.Entry b) _ (as-shaped kind.Entry b)
     (pick-shaped (eqb n 4) (readAs kind.Emit b) (refused UnknownKind) (as-shaped kind.Emit b) (blank-shaped kind.Emit))))
 
-read-shaped : (b : List ℕ) → Shaped (readRecord b .found)
+pub read-shaped : (b : List ℕ) → Shaped (readRecord b .found)
 unfolding readRecord
 read-shaped [] = blank-shaped kind.Emit
 read-shaped (n ∷ b) = named-shaped n b
 
 -- A record's own bytes, alone, are read as its own value.
 module _ (b : List ℕ) {n : ℕ} (w : Bytes b) (t : readRecord b .answer ≡ read.Took n) where
-  front : Rewrites b n (readRecord b .found)
+  pub front : Rewrites b n (readRecord b .found)
   front = read-rewrites b n w t
 
   alone : readRecord (take n b) ≡ took (own (readRecord b .found))
   alone = ap readRecord (sym (front .bytes) ∙ sym (append-nil _)) ∙ written-reads (readRecord b .found) [] (read-shaped b) (front .good)
 
   module _ (k : Kind) (g : readRecord b .found .kind ≡ k) where
-    size : n ≡ recordLength k
+    pub size : n ≡ recordLength k
     size = sym (front .count) ∙ ap recordLength g
 
     own-length : length (take n b) ≡ n
@@ -108,7 +108,7 @@ module _ (b : List ℕ) {n : ℕ} (w : Bytes b) (t : readRecord b .answer ≡ re
     own-first : getD (take n b) 0 0 ≡ kindByte k
     own-first = ap (λ (l : List ℕ). getD l 0 0) (sym (front .bytes)) ∙ ap kindByte g
 
-    first : getD b 0 0 ≡ kindByte k
+    pub first : getD b 0 0 ≡ kindByte k
     first = sym (getD-take n b 0 0 (omega (arith, size))) ∙ own-first
 
     there : partNumber (kindByte k) n (take n b) ≡ 0

@@ -2,90 +2,74 @@
 use crate::pack;
 use held::ApplyAnswer;
 use held::Held;
-use held::apply;
+use held::emit_held;
 use parts::number_of;
-use parts::read_part;
+use parts::part_number;
+use records::Kind;
+use records::ReadAnswer;
+use records::reader::read;
 use text::put;
-ghost use Prim.Native.Nat.{_<_, _≤_};
+ghost use Prim.Native.Nat.{_+_, _*_, _≤_};
 ghost use mathlib.Core.Path.{_≡_};
-ghost use lib.ListN.{getD, length, take};
+ghost use lib.ListN.{length, take};
 ghost use lib.Seq.{sets};
-ghost use Rattle.held.specs.Applying.{applyAnswer, textAfter};
-ghost use Rattle.service.specs.Applying.{answerTo, heldAfter, heldOf, placeOf, replacedBytes};
+ghost use Rattle.held.specs.Applying.{applyAs, textAfter};
+ghost use Rattle.service.specs.Applying.{answerTo, heldAfter, heldOf};
 ghost use Rattle.service.specs.Packed.{packedApplied};
-
-// The packed answer, and how many bytes are to be held anew.
-pub struct Outcome {
-    pub number: u64,
-    pub replaced: usize,
-}
 
 // The values of the held records.
 fn held_of(held: &[u8]) -> Held
     requires { ⌜ length (now held) ≡ 113 ⌝ }
     ensures { λ r. ⌜ r ≡ heldOf (now (held .entry)) ⌝ }
 {
-    let k = read_part(1, 59, &held[..59]);
-    let v = read_part(2, 20, &held[59..79]);
-    let e = read_part(3, 34, &held[79..113]);
+    let key_part = &held[..59];
+    let variant_part = &held[59..79];
+    let entry_part = &held[79..113];
+    let k = read(key_part);
+    let v = read(variant_part);
+    let e = read(entry_part);
+    let key_answer = k.answer;
     let key = k.found.key;
+    let variant_answer = v.answer;
     let variant = v.found.variant;
+    let entry_answer = e.answer;
     let entry = e.found.entry;
     Held {
-        has_key: k.number == 0,
+        has_key: part_number(1, 59, key_part, key_answer) == 0,
         key: key,
-        has_variant: v.number == 0,
+        has_variant: part_number(2, 20, variant_part, variant_answer) == 0,
         variant: variant,
-        has_entry: e.number == 0,
+        has_entry: part_number(3, 34, entry_part, entry_answer) == 0,
         entry: entry,
     }
 }
 
-// Applies the record at the front of bytes to values, and packs the answer.
-fn apply_values(held: Held, bytes: &[u8], text: &mut [u8]) -> Outcome
-    ensures number { λ r. ⌜ r .number ≡ packedApplied (applyAnswer held (now (bytes .entry)) (length (now (text .entry)))) ⌝ }
-    ensures replaced { λ r. ⌜ r .replaced ≡ replacedBytes (applyAnswer held (now (bytes .entry)) (length (now (text .entry)))) ⌝ }
-    ensures buffer { λ r. ⌜ now (text .exit) ≡ textAfter (applyAnswer held (now (bytes .entry)) (length (now (text .entry)))) held (now (text .entry)) ⌝ }
+// An emit record that took n bytes, applied to the held bytes.
+fn emit_from(held: &[u8], n: usize, text: &mut [u8]) -> u64
+    requires { ⌜ (length (now held) ≡ 113) × (n ≤ 59) ⌝ }
+    ensures number { λ r. ⌜ r ≡ packedApplied (applyAs Kind.Emit n (heldOf (now (held .entry))) (length (now (text .entry)))) ⌝ }
+    ensures buffer { λ r. ⌜ now (text .exit) ≡ textAfter (applyAs Kind.Emit n (heldOf (now (held .entry))) (length (now (text .entry)))) (heldOf (now (held .entry))) (now (text .entry)) ⌝ }
 {
-    let applied = apply(held, bytes, text);
-    let answer = applied.answer;
-    match answer {
-        ApplyAnswer::Replaced(n) => Outcome {
-            number: 72057594037927936 * (n as u64),
-            replaced: n,
-        },
-        ApplyAnswer::Text(n, m) => Outcome {
-            number: pack(m) + 72057594037927936 * (n as u64),
-            replaced: 0,
-        },
-        ApplyAnswer::Refused(cause) => Outcome {
-            number: number_of(cause),
-            replaced: 0,
-        },
+    let values = held_of(held);
+    match emit_held(values, n, text) {
+        ApplyAnswer::Replaced(m) => 72057594037927936 * (m as u64),
+        ApplyAnswer::Text(m, emitted) => pack(emitted) + 72057594037927936 * (m as u64),
+        ApplyAnswer::Refused(cause) => number_of(cause),
     }
 }
 
-// Where the part of a kind byte begins.
-fn place(byte: u8) -> usize
-    ensures { λ r. ⌜ r ≡ placeOf byte ⌝ }
+// The record's n bytes over those of its part of the held bytes, which begins at at.
+fn hold(held: &mut [u8], at: usize, bytes: &[u8], n: usize) -> u64
+    requires { ⌜ (at + n ≤ length (now held)) × (n ≤ length (now bytes)) × (n ≤ 59) ⌝ }
+    ensures number { λ r. ⌜ r ≡ 72057594037927936 * n ⌝ }
+    ensures kept { λ _. ⌜ now (held .exit) ≡ sets (now (held .entry)) at (take n (now (bytes .entry))) ⌝ }
 {
-    match byte {
-        1 => 0,
-        2 => 59,
-        _ => 79,
-    }
-}
-
-// The record's n bytes over its part of the held bytes.
-fn hold(held: &mut [u8], bytes: &[u8], n: usize)
-    requires { ⌜ (0 < n) × (n ≤ length (now bytes)) ⌝ }
-    ensures { λ _. ⌜ now (held .exit) ≡ sets (now (held .entry)) (placeOf (getD (now (bytes .entry)) 0 0)) (take n (now (bytes .entry))) ⌝ }
-{
-    let at = place(bytes[0]);
     put(held, at, &bytes[..n]);
+    72057594037927936 * (n as u64)
 }
 
 // Applies the record at the front of bytes: its bytes are held, or a text is written to the front of text. A refusal leaves both as they were.
+// What is held is read for an emit record alone.
 #[no_mangle]
 pub extern "C" fn yuzuknoll_apply(held: &mut [u8], bytes: &[u8], text: &mut [u8]) -> u64
     ensures answer { λ r. ⌜ r ≡ packedApplied (answerTo (now (held .entry)) (now (bytes .entry)) (length (now (text .entry)))) ⌝ }
@@ -95,11 +79,17 @@ pub extern "C" fn yuzuknoll_apply(held: &mut [u8], bytes: &[u8], text: &mut [u8]
     if held.len() != 113 {
         return 1;
     }
-    let before = held_of(held);
-    let outcome = apply_values(before, bytes, text);
-    let n = outcome.replaced;
-    if 0 < n {
-        hold(held, bytes, n);
+    let reading = read(bytes);
+    let answer = reading.answer;
+    let found = reading.found;
+    let kind = found.kind;
+    match answer {
+        ReadAnswer::Refused(cause) => number_of(cause),
+        ReadAnswer::Took(n) => match kind {
+            Kind::Key => hold(held, 0, bytes, n),
+            Kind::Variant => hold(held, 59, bytes, n),
+            Kind::Entry => hold(held, 79, bytes, n),
+            Kind::Emit => emit_from(held, n, text),
+        },
     }
-    outcome.number
 }

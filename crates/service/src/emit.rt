@@ -3,10 +3,11 @@ use crate::pack;
 use emission::Answer;
 use emission::Refusal;
 use emission::emit;
-use parts::read_part;
+use parts::part_number;
 use records::Entry;
 use records::Key;
 use records::Variant;
+use records::reader::read;
 ghost use mathlib.Core.Path.{_≡_};
 ghost use lib.ListN.{length};
 ghost use Rattle.metal.specs.Results.{answerOf, bufferAfter, refusalNumber, textOf};
@@ -43,17 +44,23 @@ pub extern "C" fn yuzuknoll_emit(key: &[u8], variant: &[u8], entry: &[u8], out: 
     ensures answer { λ r. ⌜ r ≡ emitted (now (key .entry)) (now (variant .entry)) (now (entry .entry)) (length (now (out .entry))) ⌝ }
     ensures buffer { λ r. ⌜ now (out .exit) ≡ emittedBuffer (now (key .entry)) (now (variant .entry)) (now (entry .entry)) (now (out .entry)) ⌝ }
 {
-    let k = read_part(1, 59, key);
-    if 0 < k.number {
-        return k.number;
+    let k = read(key);
+    let key_answer = k.answer;
+    let key_number = part_number(1, 59, key, key_answer);
+    if 0 < key_number {
+        return key_number;
     }
-    let v = read_part(2, 20, variant);
-    if 0 < v.number {
-        return v.number;
+    let v = read(variant);
+    let variant_answer = v.answer;
+    let variant_number = part_number(2, 20, variant, variant_answer);
+    if 0 < variant_number {
+        return variant_number;
     }
-    let e = read_part(3, 34, entry);
-    if 0 < e.number {
-        return e.number;
+    let e = read(entry);
+    let entry_answer = e.answer;
+    let entry_number = part_number(3, 34, entry, entry_answer);
+    if 0 < entry_number {
+        return entry_number;
     }
     let key_found = k.found.key;
     let variant_found = v.found.variant;

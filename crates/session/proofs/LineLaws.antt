@@ -52,7 +52,7 @@ abbrev Line : List ℕ → List ℕ → List ℕ → ℕ → Type 0
 Line line l l′ n = (n ≡ length line) × (l′ ≡ lineAfter line l)
 
 front-line : {l l′ : List ℕ} {n : ℕ} {t : Text} → Wrote l 0 l′ n t → length (flat t) ≤ 89 → length l ≡ 96 → Line (flat t) l l′ n
-front-line w s h = let e = w .next in let r = w .room in (omega arith, whole w (omega arith))
+front-line w s h = (omega (arith, w .fits (omega arith) .1), whole w (omega arith))
 
 pub emit-line : {l l′ : List ℕ} {n : ℕ} (e : Emitted) → Wrote l 0 l′ n (emitText e) → length l ≡ 96 → Line (emitLine e) l l′ n
 unfolding emitLine

@@ -1,14 +1,16 @@
 -- The laws of writing: one text behind another is the two joined; a text that fits is written whole; which of two texts; a text's length.
-use Prim.Native.Nat.{ℕ, zero, suc, _+_, _-_, _^_, _<_, _≤_, min}
+use Prim.Native.Nat.{ℕ, zero, suc, _+_, _<_, _≤_}
 use mathlib.Core.Bool.{Bool, true, false, cond}
 use mathlib.Core.Path.{_≡_, refl, ap, sym, subst, _∙_}
 use mathlib.Core.List.{List, [], _∷_, _++_}
-use native.Mathlib.Omega.{arith, min-cases}
+use mathlib.Core.Logic.{by-cases}
+use native.Mathlib.Omega.{arith}
 use native.Mathlib.Nat.{add-zero, zero-add}
+use native.Mathlib.Decide.{decLe}
 use borrow.Author.Tests.{ne-eqb, le-leb, lt-leb, le-ltb, lt-ltb}
 use lib.Dec.{eqb, eqb→eq}
-use lib.ListN.{length, take, drop, getD, set, length-set, length-append, take-append-drop}
-use lib.Seq.{sets, sets-eq, length-sets, length-take-le, set-out}
+use lib.ListN.{length, drop, getD, set, length-append}
+use lib.Seq.{sets, sets-eq}
 use Rattle.text.specs.Text.{Text, raw, _⊕_, pick, flat, size}
 use Rattle.text.specs.Marks.{filled, marked}
 use Rattle.text.specs.Buffer.{Wrote}
@@ -19,32 +21,10 @@ flat-length (s ⊕ t) = simp length-append (omega (arith, flat-length s, flat-le
 flat-length (pick true s t) = flat-length s
 flat-length (pick false s t) = flat-length t
 
--- past the end nothing is written
-pub sets-out : (t l : List ℕ) (i : ℕ) → length l ≤ i → sets l i t ≡ l
-sets-out [] l i h = refl
-sets-out (x ∷ t) l i h = rw (set-out l i x h) (sets-out t l (suc i) (omega arith))
-
 -- one text behind another is the two joined
 pub sets-append : (s t l : List ℕ) (i : ℕ) → sets l i (s ++ t) ≡ sets (sets l i s) (i + length s) t
 sets-append [] t l i = rw add-zero
 sets-append (x ∷ s) t l i = sets-append s t (set l i x) (suc i) ∙ ap (λ (k : ℕ). sets (sets (set l i x) (suc i) s) k t) (omega arith)
-
--- what does not fall inside may be left out
-pub sets-take : (t l : List ℕ) (i n : ℕ) → n ≤ length t → length l ≤ i + n → sets l i (take n t) ≡ sets l i t
-sets-take t l i n k h =
-    let e : length (take n t) ≡ n = length-take-le n t k in
-    sym (sets-out (drop n t) (sets l i (take n t)) (i + length (take n t)) (simp length-sets (omega arith)))
-    ∙ sym (sets-append (take n t) (drop n t) l i)
-    ∙ rw take-append-drop
-
--- where the place would be past the largest usize, the buffer has ended long before
-seam : (s t l : List ℕ) (i : ℕ) → length l < 2 ^ 63 → sets (sets l i s) (min (2 ^ 64 - 1) (i + length s)) t ≡ sets l i (s ++ t)
-seam s t l i h =
-    min-cases (2 ^ 64 - 1) (i + length s) _
-    (λ k e. sets-out t (sets l i s) _ (simp length-sets (omega arith))
-    ∙ sym (sets-out t (sets l i s) (i + length s) (simp length-sets (omega arith)))
-    ∙ sym (sets-append s t l i))
-    (λ k e. rw e (sym (sets-append s t l i)))
 
 -- a text filled, byte by byte
 pub length-marked : (m : ℕ) (s : List ℕ) → length (marked m s) ≡ length s
@@ -65,38 +45,53 @@ unmarked [] = refl
 unmarked (b ∷ s) = rw (unmarked-byte b _ refl, unmarked s)
 
 -- no bytes
-pub nothing : (l : List ℕ) (at : ℕ) → length l < 2 ^ 63 → at < 2 ^ 64 → Wrote l at l at (raw [])
-nothing l at h k = record { room = h; text = refl; next = omega arith }
+pub nothing : (l : List ℕ) (at : ℕ) → Wrote l at l at (raw [])
+nothing l at = record { kept = refl; fits = λ h. (refl, omega arith); over = λ h. omega arith }
 
 infixr 60 _⨾_
 pub _⨾_ : {l l₁ l₂ : List ℕ} {a a₁ a₂ : ℕ} {s t : Text} → Wrote l a l₁ a₁ s → Wrote l₁ a₁ l₂ a₂ t → Wrote l a l₂ a₂ (s ⊕ t)
 _⨾_ {l} {l₁} {l₂} {a} {a₁} {a₂} {s} {t} p q =
     record {
-      room = p .room;
-      text = q .text ∙ rw (p .text, p .next) (seam (flat s) (flat t) l a (p .room));
-      next = simp length-append (omega arith);
+      kept = q .kept ∙ p .kept;
+      fits = λ h. joined (simp length-append at h);
+      over = λ h. beyond (simp length-append at h);
     }
+  where
+    m : ℕ
+    m = length (flat s)
 
-pub within : {l l′ : List ℕ} {a a′ : ℕ} {t : Text} → Wrote l a l′ a′ t → a′ < 2 ^ 64
-within w = let e = w .next in omega arith
+    n : ℕ
+    n = length (flat t)
+
+    joined : a + (m + n) ≤ length l → (l₂ ≡ sets l a (flat s ++ flat t)) × (a₂ ≡ a + length (flat s ++ flat t))
+    joined h =
+        let e = p .fits (omega arith) in
+        let f = q .fits (omega (arith, p .kept, e .1)) in
+        (f .0 ∙ rw (e .0, e .1) (sym (sets-append (flat s) (flat t) l a)), simp length-append (omega (arith, e .1, f .1)))
+
+    beyond : length l < a + (m + n) → length l < a₂
+    beyond h =
+        by-cases (decLe (a + m) (length l))
+        (λ k. let e = p .fits k .1 in omega (arith, p .kept, q .over (omega (arith, e, p .kept))))
+        (λ k. let f = p .over (omega (arith, k)) in omega (arith, p .kept, q .over (omega (arith, f, p .kept))))
 
 pub keeps : {l l′ : List ℕ} {a a′ : ℕ} {t : Text} → Wrote l a l′ a′ t → length l′ ≡ length l
-keeps w = ap length (w .text) ∙ simp length-sets
+keeps w = w .kept
 
 -- a text that fits is written whole
 pub whole : {l l′ : List ℕ} {a′ : ℕ} {t : Text} → Wrote l 0 l′ a′ t → length (flat t) ≤ length l → l′ ≡ flat t ++ drop (length (flat t)) l
-whole {l} {t = t} w h = w .text ∙ sets-eq (flat t) l 0 (omega arith) ∙ rw zero-add
+whole {l} {t = t} w h = w .fits (omega arith) .0 ∙ sets-eq (flat t) l 0 (omega arith) ∙ rw zero-add
 
 -- a text of the same bytes
 pub same : {l l′ : List ℕ} {a a′ : ℕ} {s t : Text} → flat s ≡ flat t → Wrote l a l′ a′ s → Wrote l a l′ a′ t
-same e w = record { room = w .room; text = w .text ∙ rw e; next = w .next ∙ rw e }
+same e w = record { kept = w .kept; fits = rw e at (w .fits); over = rw e at (w .over) }
 
 -- which of two texts
 pub pick-true : {l l′ : List ℕ} {a a′ : ℕ} {b : Bool} {s t : Text} → b ≡ true → Wrote l a l′ a′ s → Wrote l a l′ a′ (pick b s t)
-pick-true e w = rw e (record { room = w .room; text = w .text; next = w .next })
+pick-true e w = rw e (record { kept = w .kept; fits = w .fits; over = w .over })
 
 pub pick-false : {l l′ : List ℕ} {a a′ : ℕ} {b : Bool} {s t : Text} → b ≡ false → Wrote l a l′ a′ t → Wrote l a l′ a′ (pick b s t)
-pick-false e w = rw e (record { room = w .room; text = w .text; next = w .next })
+pick-false e w = rw e (record { kept = w .kept; fits = w .fits; over = w .over })
 
 -- a text that depends on a test
 pub by-test : {l l′ : List ℕ} {a a′ : ℕ} {s : Text} (t : Bool → Text) (b c : Bool) → b ≡ c → flat s ≡ flat (t c) → Wrote l a l′ a′ s → Wrote l a l′ a′ (t b)

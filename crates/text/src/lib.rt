@@ -1,10 +1,10 @@
 //! Text written into a lent buffer.
 //!
-//! Each function writes at a place of the buffer the bytes that fall inside it, and returns the place behind the last, at most the
-//! largest usize. On an empty buffer it only measures.
+//! Each function writes at a place of the buffer and returns the place behind the last byte. Where the bytes do not fit it writes none of
+//! them and returns a place outside, from which nothing fits any more.
 ghost use Prim.Native.Nat.{_<_, _≤_, _+_};
 ghost use mathlib.Core.Path.{_≡_};
-ghost use lib.ListN.{length, take};
+ghost use lib.ListN.{length};
 ghost use lib.Seq.{sets};
 ghost use Rattle.text.specs.Text.{raw, pick, when, digit, decimal};
 ghost use Rattle.text.specs.Marks.{filled, marked, numbered};
@@ -20,41 +20,30 @@ fn filled(mark: u8, b: u8) -> u8
     b
 }
 
-// The first n bytes of s, filled, into out from at on.
-fn copy(out: &mut [u8], at: usize, s: &[u8], mark: u8, n: usize)
-    requires { ⌜ (at + n ≤ length (now out)) × (n ≤ length (now s)) ⌝ }
-    ensures { λ _. ⌜ now (out .exit) ≡ sets (now (out .entry)) at (take n (marked mark (now (s .entry)))) ⌝ }
+// The bytes of s, filled, into out from at on.
+fn copy(out: &mut [u8], at: usize, s: &[u8], mark: u8)
+    requires { ⌜ at + length (now s) ≤ length (now out) ⌝ }
+    ensures { λ _. ⌜ now (out .exit) ≡ sets (now (out .entry)) at (marked mark (now (s .entry))) ⌝ }
 {
     let mut i = 0;
-    while i < n {
+    while i < s.len() {
         out[at + i] = filled(mark, s[i]);
         i += 1;
     }
 }
 
-// The bytes of s, filled, that fall inside out, from at on.
-fn lay(out: &mut [u8], at: usize, s: &[u8], mark: u8)
-    ensures { λ _. ⌜ now (out .exit) ≡ sets (now (out .entry)) at (marked mark (now (s .entry))) ⌝ }
-{
-    if out.len() <= at {
-        return;
-    }
-    let room = out.len() - at;
-    if s.len() <= room {
-        copy(out, at, s, mark, s.len());
-    } else {
-        copy(out, at, s, mark, room);
-    }
-}
-
+// One test before the copy and none in it: where s is a literal, its length is known and the copy is a few stores of constants.
 fn put_marked(out: &mut [u8], at: usize, s: &[u8], mark: u8) -> usize
     ensures { λ r. ⌜ Wrote (now (out .entry)) at (now (out .exit)) r (raw (marked mark (now (s .entry)))) ⌝ }
 {
-    lay(out, at, s, mark);
-    if s.len() <= 18446744073709551615 - at {
-        return at + s.len();
+    if out.len() < s.len() {
+        return 18446744073709551615;
     }
-    18446744073709551615
+    if out.len() - s.len() < at {
+        return 18446744073709551615;
+    }
+    copy(out, at, s, mark);
+    at + s.len()
 }
 
 pub fn put(out: &mut [u8], at: usize, s: &[u8]) -> usize

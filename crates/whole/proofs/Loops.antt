@@ -9,7 +9,7 @@ use lib.Dec.{eqb}
 use lib.ListN.{length, drop, getD}
 use Rattle.text.specs.Text.{Text, when, _⊕_}
 use Rattle.text.specs.Buffer.{Wrote}
-use Rattle.text.proofs.Laws.{_⨾_, nothing, within, keeps}
+use Rattle.text.proofs.Laws.{_⨾_, nothing}
 use Rattle.combiners.specs.Codes.{bit}
 use Rattle.cascade.specs.Keys.{textured, active, activeCount, bump}
 use Rattle.cascade.specs.Stages.{decode}
@@ -86,12 +86,12 @@ module _ (v : Variant) (projected : ℕ) (alive : Bool) (l : List Stage) (out₀
         few = rw e (fewer (eqb (m % 2) 1) n i (inv .few));
       }
 
-  pub stages-end : {out : List ℕ} {p m n : ℕ} {before : Before} (i : ℕ) → activeCount l ≤ i → length out < 2 ^ 63 → p < 2 ^ 64 → AtStage out p before i m n
+  pub stages-end : {out : List ℕ} {p m n : ℕ} {before : Before} (i : ℕ) → activeCount l ≤ i → AtStage out p before i m n
       → Wrote out₀ at out p (stagesText v projected alive Ordinary 0 (active l)) × (n ≡ lookupsOf alive (active l))
   unfolding stagesText lookupsOf
-  stages-end {out} {p} i h r q inv =
+  stages-end {out} {p} i h inv =
       let c = past l i h in
-      (inv .rest out p (rw c (nothing out p r q)), omega (arith, rw c at (inv .counted)))
+      (inv .rest out p (rw c (nothing out p)), omega (arith, rw c at (inv .counted)))
 
 -- what a survey says of the loops' bounds
 pub survey-count : (l : List Stage) (u : Survey) → u ≡ surveyOf l → u .count ≡ activeCount l
@@ -111,10 +111,10 @@ precedes i s = go (bump s)
     go false = tt
 
 -- the line of a decoded stage: none of a bump stage
-pub no-line : {l out : List ℕ} {q p : ℕ} {t : Text} (alive : Bool) (i : ℕ) (s : Stage) {d : Decoded} → d ≡ decode s → d ≡ Bump → Wrote l q out p t
+pub no-line : {out : List ℕ} {p : ℕ} (alive : Bool) (i : ℕ) (s : Stage) {d : Decoded} → d ≡ decode s → d ≡ Bump
     → Wrote out p out p (stageLine alive i s (decode s))
 unfolding stageLine
-no-line {out = out} {p = p} alive i s e f w = rw (sym e ∙ f) (nothing out p (omega (arith, keeps w, w .room)) (within w))
+no-line {out = out} {p = p} alive i s e f = rw (sym e ∙ f) (nothing out p)
 
 pub a-line : {out out′ : List ℕ} {p p′ : ℕ} (alive : Bool) (i : ℕ) (s : Stage) {d : Decoded} {x : Expressions} → d ≡ decode s → d ≡ Writes x
     → Wrote out p out′ p′ (stageLine alive i s (Writes x)) → Wrote out p out′ p′ (stageLine alive i s (decode s))

@@ -53,18 +53,18 @@ begins true = refl
 begins false = refl
 
 -- the parameters of a texture and its sampler
-abbrev pair : ℕ → TextureType → Text
-pair i t = lit ",\n    " ⊕ typeText t ⊕ numbered i (bytes " s# [[texture(#)]],\n    sampler samp# [[sampler(#)]]")
+abbrev texture : ℕ → TextureType → Text
+texture i t = lit ",\n    " ⊕ typeText t ⊕ numbered i (bytes " s# [[texture(#)]]")
 
-pair-text : (v : Variant) (i : ℕ) → flat (pair i (textureTypeOf v i)) ≡ flat (textureParameter v i ⊕ samplerParameter i)
+abbrev sampler : ℕ → Text
+sampler i = numbered i (bytes ",\n    sampler samp# [[sampler(#)]]")
+
+pair-text : (v : Variant) (i : ℕ) → flat (texture i (textureTypeOf v i) ⊕ sampler i) ≡ flat (textureParameter v i ⊕ samplerParameter i)
 unfolding textureParameter samplerParameter textureName samplerName
-pair-text v i =
-    ap (λ (r : List ℕ). bytes ",\n    " ++ r)
-    (sym (append-assoc (flat (typeText (textureTypeOf v i))) (flat (numbered i (bytes " s# [[texture(#)]]"))) (flat (numbered i (bytes ",\n    sampler samp# [[sampler(#)]]")))))
+pair-text v i = refl
 
-pub paired : (v : Variant) (i : ℕ) (t : TextureType) → t ≡ textureTypeOf v i
-    → flat (pair i t) ≡ flat (textureParameter v i ⊕ samplerParameter i)
-paired v i t e = ap (λ (x : TextureType). flat (pair i x)) e ∙ pair-text v i
+pub paired : (v : Variant) (i : ℕ) (t : TextureType) → t ≡ textureTypeOf v i → flat (texture i t ⊕ sampler i) ≡ flat (textureParameter v i ⊕ samplerParameter i)
+paired v i t e = ap (λ (x : TextureType). flat (texture i x ⊕ sampler i)) e ∙ pair-text v i
 
 pub sprites : flat (raw (flat
     (lit "    Varyings in = in_stage;\n"

@@ -23,7 +23,7 @@ module _ (v : Variant) (l : List Stage) where
   unfolding samplersText
   samplers-turn i d h inv w out′ p′ x = inv out′ p′ (rw (here l i d h, ← add-one i) (w ⨾ x))
 
-  pub samplers-end : {out₀ out : List ℕ} {at p : ℕ} (i : ℕ) → activeCount l ≤ i → length out < 2 ^ 63 → p < 2 ^ 64 → SamplersFrom out₀ at out p i
+  pub samplers-end : {out₀ out : List ℕ} {at p : ℕ} (i : ℕ) → activeCount l ≤ i → SamplersFrom out₀ at out p i
       → Wrote out₀ at out p (samplersText v 0 (active l))
   unfolding samplersText
-  samplers-end {out = out} {p = p} i h r q inv = inv out p (rw (past l i h) (nothing out p r q))
+  samplers-end {out = out} {p = p} i h inv = inv out p (rw (past l i h) (nothing out p))

@@ -36,46 +36,37 @@ fn put_stage_in(out: &mut [u8], at: usize, sprite: bool) -> usize
     )
 }
 
-// The parameters of stage i's texture and sampler.
-fn put_pair(out: &mut [u8], at: usize, t: TextureType, i: u8) -> usize
+// The parameter of stage i's texture.
+fn put_texture(out: &mut [u8], at: usize, t: TextureType, i: u8) -> usize
     requires { ⌜ i < 8 ⌝ }
-    ensures { λ r. ⌜ Wrote (now (out .entry)) at (now (out .exit)) r
-        (lit ",\n    " ⊕ typeText t ⊕ numbered i (bytes " s# [[texture(#)]],\n    sampler samp# [[sampler(#)]]")) ⌝ }
+    ensures { λ r. ⌜ Wrote (now (out .entry)) at (now (out .exit)) r (lit ",\n    " ⊕ typeText t ⊕ numbered i (bytes " s# [[texture(#)]]")) ⌝ }
 {
     match t {
-        TextureType::Depth => put_numbered(
-            out,
-            at,
-            b",\n    depth2d<float> s# [[texture(#)]],\n    sampler samp# [[sampler(#)]]",
-            i,
-        ),
+        TextureType::Depth => put_numbered(out, at, b",\n    depth2d<float> s# [[texture(#)]]", i),
         TextureType::Volume => put_numbered(
             out,
             at,
-            b",\n    texture3d<float> s# [[texture(#)]],\n    sampler samp# [[sampler(#)]]",
+            b",\n    texture3d<float> s# [[texture(#)]]",
             i,
         ),
         TextureType::Cube => put_numbered(
             out,
             at,
-            b",\n    texturecube<float> s# [[texture(#)]],\n    sampler samp# [[sampler(#)]]",
+            b",\n    texturecube<float> s# [[texture(#)]]",
             i,
         ),
-        TextureType::Flat => put_numbered(
-            out,
-            at,
-            b",\n    texture2d<float> s# [[texture(#)]],\n    sampler samp# [[sampler(#)]]",
-            i,
-        ),
+        TextureType::Flat => put_numbered(out, at, b",\n    texture2d<float> s# [[texture(#)]]", i),
     }
 }
 
+// The parameters of stage i's texture and sampler.
 fn put_sampler(out: &mut [u8], at: usize, there: bool, v: Variant, i: u8) -> usize
     requires { ⌜ i < 8 ⌝ }
     ensures { λ r. ⌜ Wrote (now (out .entry)) at (now (out .exit)) r (when there (textureParameter v i ⊕ samplerParameter i)) ⌝ }
 {
     if there {
-        return put_pair(out, at, texture_type_of(v, i), i);
+        let p = put_texture(out, at, texture_type_of(v, i), i);
+        return put_numbered(out, p, b",\n    sampler samp# [[sampler(#)]]", i);
     }
     at
 }

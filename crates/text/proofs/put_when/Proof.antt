@@ -11,4 +11,4 @@ put-when-spec =
     (λ c κs. search needs)
     (λ c. search needs)
     (λ c. search (texts, c .before .before .before .before .if1 .taken, c .before .before .put .ensures))
-    (λ c. pick-false (c .if1 .left) (nothing _ _ (omega arith) (omega arith))))
+    (λ c. pick-false (c .if1 .left) (nothing _ _)))

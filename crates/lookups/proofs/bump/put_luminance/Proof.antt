@@ -11,4 +11,4 @@ put-luminance-spec =
     (λ c κs. search needs)
     (λ c. search needs)
     (λ c. pick-true (c .before .before .before .before .if1 .taken) (c .before .before .put-luminance-line .ensures))
-    (λ c. pick-false (c .if1 .left) (nothing _ _ (omega arith) (omega arith))))
+    (λ c. pick-false (c .if1 .left) (nothing _ _)))

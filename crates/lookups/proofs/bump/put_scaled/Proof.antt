@@ -21,4 +21,4 @@ put-scaled-spec =
     (λ c κs. tt)
     (λ c. keeps (c .before .before .before .before .before .before .before .before .before .before .before .put-numbered .ensures ⨾ c .before .before .before .before .before .before .before .put-bump-row .ensures ⨾ c .before .before .put .ensures))
     (λ c. pick-true (c .before .before .before .before .before .before .before .before .before .before .before .before .before .before .if1 .taken) (same (scales (c .before .before .before .before .before .before .before .before .before .before .before .before .before .before .before .before .args .n) (bumpRow (2 * c .before .before .before .before .before .before .before .before .before .before .before .before .before .before .before .before .args .n + 1))) (c .before .before .before .before .before .before .before .before .before .before .before .put-numbered .ensures ⨾ c .before .before .before .before .before .before .before .put-bump-row .ensures ⨾ c .before .before .put .ensures)))
-    (λ c. pick-false (c .if1 .left) (nothing _ _ (omega arith) (omega arith))))
+    (λ c. pick-false (c .if1 .left) (nothing _ _)))

@@ -14,4 +14,4 @@ put-bias-spec =
     (λ c κs. omega (arith, c .before .before .before .before .pre))
     (λ c. keeps (c .before .before .put-numbered .ensures))
     (λ c. pick-true (c .before .before .before .before .before .if1 .taken) (same (biased (c .before .before .before .before .before .before .before .args .i)) (c .before .before .put-numbered .ensures)))
-    (λ c. pick-false (c .if1 .left) (nothing _ _ (omega arith) (omega arith))))
+    (λ c. pick-false (c .if1 .left) (nothing _ _)))

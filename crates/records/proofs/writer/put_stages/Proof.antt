@@ -23,7 +23,7 @@ abbrev μ-loop : tie.MeasureT-loop
 loop-holds : tie.Need-loop-holds Inv-loop μ-loop
 unfolding stagesBytes
 loop-holds c =
-    (omega arith, sym (length-map (c .before .args .t3 .stages) _) ∙ c .before .good .1 .1 .0 .1 .1 .0 .1 .0 .1, nothing _ _ (omega arith) (omega arith))
+    (omega arith, sym (length-map (c .before .args .t3 .stages) _) ∙ c .before .good .1 .1 .0 .1 .1 .0 .1 .0 .1, nothing _ _)
 
 add-i : tie.Need-add-i Inv-loop μ-loop
 add-i c = omega arith

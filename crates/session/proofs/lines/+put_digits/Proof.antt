@@ -32,7 +32,7 @@ put-digits-returns : (t : ℕ) → put-digits-lts.Need-returns (
   put-digits.Post,
 ) (put-digits-at t) put-digits.Post
 unfolding decimalOf
-put-digits-returns t c = rw (c .if1 .taken) (nothing _ _ (omega arith) (omega arith))
+put-digits-returns t c = rw (c .if1 .taken) (nothing _ _)
 
 put-digits-cast-put-digit : (t : ℕ) → put-digits-lts.Need-cast-put-digit (
   put-digit-reads.Asked,

@@ -16,4 +16,4 @@ put-marked-spec =
     (λ c. search needs)
     (λ c. search needs)
     (λ c. (rw (← c .before .before .before .before .before .before .lookup-of .ensures, ← c .before .before .before .before .lod-bias .ensures, ← c .before .before .before .bit .ensures) (pick-true (c .before .before .before .before .before .before .before .if1 .taken) (c .before .before .put-sample .ensures)), rw (c .before .before .before .before .before .before .before .if1 .taken) (add-one _)))
-    (λ c. (pick-false (c .if1 .left) (nothing _ _ (omega arith) (omega arith)), rw (c .if1 .left))))
+    (λ c. (pick-false (c .if1 .left) (nothing _ _), rw (c .if1 .left))))

@@ -17,4 +17,4 @@ put-stage-line-spec =
     (λ c κs. search needs)
     (λ c. search needs)
     (λ c. pick-true (sym (c .before .before .before .before .before .before .before .is-lined .ensures) ∙ c .before .before .before .before .before .before .if1 .taken) (rw (← c .before .before .before .before .textured .ensures, ← c .before .before .before .to-temp .ensures) (c .before .before .put-line .ensures)))
-    (λ c. pick-false (sym (c .before .is-lined .ensures) ∙ c .if1 .left) (nothing _ _ (omega arith) (omega arith))))
+    (λ c. pick-false (sym (c .before .is-lined .ensures) ∙ c .if1 .left) (nothing _ _)))

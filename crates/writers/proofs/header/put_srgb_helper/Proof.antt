@@ -17,4 +17,4 @@ put-srgb-helper-spec =
     (λ c κs. tt)
     (λ c. keeps (c .before .before .put .ensures))
     (λ c. by-test srgbHelperText (c .before .before .before .before .before .before .before .args .on) true (c .before .before .before .before .before .if1 .taken) helper (c .before .before .put .ensures))
-    (λ c. by-test srgbHelperText (c .before .before .args .on) false (c .if1 .left) no-helper (nothing _ _ (omega arith) (omega arith))))
+    (λ c. by-test srgbHelperText (c .before .before .args .on) false (c .if1 .left) no-helper (nothing _ _)))

@@ -24,4 +24,4 @@ put-test-spec =
     let c₁ = c₂ .before .before .before .before in
     let t = c₁ .before .before .before in
     pick-true (sym (t .before .tested .ensures) ∙ t .if1 .taken) (c₁ .put .ensures ⨾ c₂ .put-comparison .ensures ⨾ c₃ .put2 .ensures))
-    (λ c. pick-false (sym (c .before .tested .ensures) ∙ c .if1 .left) (nothing _ _ (omega arith) (omega arith))))
+    (λ c. pick-false (sym (c .before .tested .ensures) ∙ c .if1 .left) (nothing _ _)))

@@ -1,10 +1,17 @@
 use mathlib.Core.Path.{refl}
 use native.Mathlib.Omega.{arith}
-use Rattle.text.proofs.Laws.{_⨾_, keeps, same}
-use Rattle.text.proofs.Laws.{pick-true, pick-false, nothing}
+use Rattle.text.proofs.Laws.{_⨾_, keeps, same, pick-true, pick-false, nothing}
 use Rattle.writers.proofs.Parts.{paired}
 use Rattle.writers.proofs.signature.put_sampler.Statement.{statement}
 use Rattle.writers.proofs.signature.put_sampler.Tie as tie
+
+returns : tie.Need-returns
+returns c =
+    let s2 = c .before .before in
+    let s1 = s2 .before .before .before .before .before in
+    let a = s1 .before .before .before .before .before .args in
+    pick-true (s1 .before .before .before .if1 .taken)
+    (same (paired (a .v) (a .i) _ (s1 .before .texture-type-of .ensures)) (s1 .put-texture .ensures ⨾ s2 .put-numbered .ensures))
 
 pub put-sampler-spec : {M : Type 1} → statement M
 put-sampler-spec =
@@ -12,6 +19,8 @@ put-sampler-spec =
     (tie.spec
     (λ c κs. c .before .before .before .pre)
     (λ c κs. c .before .before .before .before .pre)
-    (λ c. keeps (c .before .before .put-pair .ensures))
-    (λ c. let a = c .before .before .before .before .before .before .before .args in pick-true (c .before .before .before .before .before .if1 .taken) (same (paired (a .v) (a .i) _ (c .before .before .before .texture-type-of .ensures)) (c .before .before .put-pair .ensures)))
-    (λ c. pick-false (c .if1 .left) (nothing _ _ (omega arith) (omega arith))))
+    (λ c. refl)
+    (λ c κs. omega (arith, c .before .before .before .before .before .before .before .before .before .pre))
+    (λ c. keeps (returns c))
+    returns
+    (λ c. pick-false (c .if1 .left) (nothing _ _)))

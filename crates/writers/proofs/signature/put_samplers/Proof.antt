@@ -1,9 +1,9 @@
-use Prim.Native.Nat.{_≤_, _-_, _<_, _^_}
+use Prim.Native.Nat.{_≤_, _-_, _<_}
 use mathlib.Core.Path.{_≡_, refl, sym, _∙_}
 use native.Mathlib.Omega.{arith}
 use borrow.Author.Needs.{needs}
 use lib.ListN.{length, length-map}
-use Rattle.text.proofs.Laws.{within, keeps}
+use Rattle.text.proofs.Laws.{keeps}
 use Rattle.cascade.specs.Keys.{activeCount}
 use Rattle.cascade.proofs.Active.{count-le}
 use Rattle.writers.proofs.Samplers.{SamplersFrom, samplers-turn, samplers-end}
@@ -12,7 +12,7 @@ use Rattle.writers.proofs.signature.put_samplers.Tie as tie
 
 abbrev Inv-loop : tie.InvT-loop
 Inv-loop out₀ at n v k p₀ i₀ out p i =
-    (i ≤ n) × (n ≤ 8) × (n ≡ activeCount (k .stages)) × (length out ≡ length out₀) × (p < 2 ^ 64) × SamplersFrom v (k .stages) out₀ at out p i
+    (i ≤ n) × (n ≤ 8) × (n ≡ activeCount (k .stages)) × (length out ≡ length out₀) × SamplersFrom v (k .stages) out₀ at out p i
 
 abbrev μ-loop : tie.MeasureT-loop
 μ-loop out₀ at n v k p₀ i₀ out p i = n - i
@@ -22,7 +22,7 @@ loop-holds c =
     let b = c .before in
     let l = b .args .t3 .stages in
     let e : length l ≡ 8 = sym (length-map l _) ∙ b .good .1 .1 .0 .1 .1 .0 .1 .0 .1 in
-    (omega arith, omega (arith, count-le l, b .pre), b .pre, refl, omega arith, λ out′ p′ w. w)
+    (omega arith, omega (arith, count-le l, b .pre), b .pre, refl, λ out′ p′ w. w)
 
 mul-s : tie.Need-mul-s Inv-loop μ-loop
 mul-s c = omega arith
@@ -55,8 +55,7 @@ loop-again c =
       v .1,
       v .2,
       keeps w ∙ v .3,
-      within w,
-      samplers-turn (a .v) (a .t3 .stages) (b .loop .i) _ (omega arith) (v .5) (rw (c .before .before .before .textured .ensures) at w),
+      samplers-turn (a .v) (a .t3 .stages) (b .loop .i) _ (omega arith) (v .4) (rw (c .before .before .before .textured .ensures) at w),
     )
 
 same-length : tie.Need-same-length Inv-loop μ-loop
@@ -66,7 +65,7 @@ returns : tie.Need-returns Inv-loop μ-loop
 returns c =
     let a = c .before .before .before .args in
     let v = c .before .loop .inv in
-    samplers-end (a .v) (a .t3 .stages) (c .before .loop .i) (omega arith) (omega arith) (v .4) (v .5)
+    samplers-end (a .v) (a .t3 .stages) (c .before .loop .i) (omega arith) (v .4)
 
 pub put-samplers-spec : {M : Type 1} → statement M
 put-samplers-spec =

@@ -17,4 +17,4 @@ put-sprite-spec =
     (λ c κs. tt)
     (λ c. keeps (c .before .before .put .ensures))
     (λ c. by-test spriteText (c .before .before .before .before .before .before .before .args .sprite) true (c .before .before .before .before .before .if1 .taken) sprites (c .before .before .put .ensures))
-    (λ c. by-test spriteText (c .before .before .args .sprite) false (c .if1 .left) no-sprites (nothing _ _ (omega arith) (omega arith))))
+    (λ c. by-test spriteText (c .before .before .args .sprite) false (c .if1 .left) no-sprites (nothing _ _)))
