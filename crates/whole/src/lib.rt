@@ -19,28 +19,12 @@ ghost use Rattle.text.specs.Buffer.{Wrote};
 ghost use Rattle.cascade.specs.Keys.{active};
 ghost use Rattle.cascade.specs.Reading.{lookupsOf};
 ghost use Rattle.cascade.specs.Survey.{surveyOf};
-ghost use Rattle.metal.specs.Whole.{bodyText, wholeText};
+ghost use Rattle.metal.specs.Whole.{wholeText};
 
 // The place behind what has been written, and the lookups among it.
 pub struct Place {
     pub at: usize,
     pub lookups: u8,
-}
-
-fn put_body(out: &mut [u8], at: usize, k: Key, v: Variant, u: Survey) -> Place
-    requires { ⌜ u ≡ surveyOf (k .stages) ⌝ }
-    ensures { λ r. ⌜ Wrote (now (out .entry)) at (now (out .exit)) (r .at) (bodyText k v (active (k .stages))) ⌝ }
-    ensures { λ r. ⌜ r .lookups ≡ lookupsOf (u .live) (active (k .stages)) ⌝ }
-{
-    let a = put_parameters(out, at, k, v, u);
-    let b = put_sprite(out, a, point_sprite(v));
-    let c = put_locals(out, b, u.live);
-    let p = put_stages(out, c, k, v, u);
-    let d = put_output(out, p.at, k.specular_add, v);
-    Place {
-        at: d,
-        lookups: p.lookups,
-    }
 }
 
 pub fn put_whole(out: &mut [u8], k: Key, v: Variant, e: Entry, u: Survey) -> Place
@@ -52,5 +36,13 @@ pub fn put_whole(out: &mut [u8], k: Key, v: Variant, e: Entry, u: Survey) -> Pla
     let end = e.len as usize;
     let a = put_front(out, 0, v);
     let b = put(out, a, &name[..end]);
-    put_body(out, b, k, v, u)
+    let c = put_parameters(out, b, k, v, u);
+    let d = put_sprite(out, c, point_sprite(v));
+    let l = put_locals(out, d, u.live);
+    let p = put_stages(out, l, k, v, u);
+    let r = put_output(out, p.at, k.specular_add, v);
+    Place {
+        at: r,
+        lookups: p.lookups,
+    }
 }
