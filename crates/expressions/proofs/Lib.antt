@@ -1,2 +1,2 @@
-pub mod Texels
+pub mod Blending
 pub mod Lines

@@ -1,59 +1,34 @@
-//! The operations that blend their arguments by an alpha. Two of them read the stage's texel, where a texture is bound.
+//! The operations that blend their arguments by the alpha of a source. Two of them read the stage's texel, where a texture is bound.
 use crate::sums::put_add;
 use combiners::Arg;
 use combiners::Op;
+use combiners::Source;
 use combiners::arguments::put_arg;
+use combiners::arguments::put_source;
 use text::put;
 use text::put_numbered;
 ghost use Prim.Native.Nat.{_<_};
 ghost use mathlib.Core.Bool.{true};
+ghost use Rattle.text.specs.Text.{lit, _⊕_};
 ghost use Rattle.text.specs.Buffer.{Wrote};
-ghost use Rattle.combiners.specs.Arguments.{argText};
+ghost use Rattle.combiners.specs.Arguments.{argText, sourceText};
 ghost use Rattle.combiners.specs.Combiners.{opText};
 
-pub(crate) fn put_blend_diffuse_alpha(out: &mut [u8], at: usize, x: Arg, y: Arg, stage: u8) -> usize
+// Argument 1 by the alpha of a source, and argument 2 by what is left of 1.
+pub(crate) fn put_blend(out: &mut [u8], at: usize, x: Arg, y: Arg, by: Source, stage: u8) -> usize
     requires { ⌜ stage < 8 ⌝ }
-    ensures { λ r. ⌜ Wrote (now (out .entry)) at (now (out .exit)) r (opText stage true Op.BlendDiffuseAlpha (argText stage x) (argText stage y)) ⌝ }
+    ensures { λ r. ⌜ Wrote (now (out .entry)) at (now (out .exit)) r
+        (lit "(" ⊕ argText stage x ⊕ lit " * " ⊕ sourceText stage by ⊕ lit ".a + " ⊕ argText stage y ⊕ lit " * (1.0 - " ⊕ sourceText stage by ⊕ lit ".a))") ⌝ }
 {
     let mut p = put(out, at, b"(");
     p = put_arg(out, p, x, stage);
-    p = put(out, p, b" * in.color0.a + ");
+    p = put(out, p, b" * ");
+    p = put_source(out, p, by, stage);
+    p = put(out, p, b".a + ");
     p = put_arg(out, p, y, stage);
-    put(out, p, b" * (1.0 - in.color0.a))")
-}
-
-pub(crate) fn put_blend_factor_alpha(out: &mut [u8], at: usize, x: Arg, y: Arg, stage: u8) -> usize
-    requires { ⌜ stage < 8 ⌝ }
-    ensures { λ r. ⌜ Wrote (now (out .entry)) at (now (out .exit)) r (opText stage true Op.BlendFactorAlpha (argText stage x) (argText stage y)) ⌝ }
-{
-    let mut p = put(out, at, b"(");
-    p = put_arg(out, p, x, stage);
-    p = put(out, p, b" * ps_c[0].a + ");
-    p = put_arg(out, p, y, stage);
-    put(out, p, b" * (1.0 - ps_c[0].a))")
-}
-
-pub(crate) fn put_blend_current_alpha(out: &mut [u8], at: usize, x: Arg, y: Arg, stage: u8) -> usize
-    requires { ⌜ stage < 8 ⌝ }
-    ensures { λ r. ⌜ Wrote (now (out .entry)) at (now (out .exit)) r (opText stage true Op.BlendCurrentAlpha (argText stage x) (argText stage y)) ⌝ }
-{
-    let mut p = put(out, at, b"(");
-    p = put_arg(out, p, x, stage);
-    p = put(out, p, b" * current.a + ");
-    p = put_arg(out, p, y, stage);
-    put(out, p, b" * (1.0 - current.a))")
-}
-
-// By the texel's alpha.
-fn put_by_texel(out: &mut [u8], at: usize, x: Arg, y: Arg, stage: u8) -> usize
-    requires { ⌜ stage < 8 ⌝ }
-    ensures { λ r. ⌜ Wrote (now (out .entry)) at (now (out .exit)) r (opText stage true Op.BlendTextureAlpha (argText stage x) (argText stage y)) ⌝ }
-{
-    let mut p = put(out, at, b"(");
-    p = put_arg(out, p, x, stage);
-    p = put_numbered(out, p, b" * t#.a + ", stage);
-    p = put_arg(out, p, y, stage);
-    put_numbered(out, p, b" * (1.0 - t#.a))", stage)
+    p = put(out, p, b" * (1.0 - ");
+    p = put_source(out, p, by, stage);
+    put(out, p, b".a))")
 }
 
 pub(crate) fn put_blend_texture_alpha(
@@ -68,7 +43,7 @@ pub(crate) fn put_blend_texture_alpha(
     ensures { λ r. ⌜ Wrote (now (out .entry)) at (now (out .exit)) r (opText stage textured Op.BlendTextureAlpha (argText stage x) (argText stage y)) ⌝ }
 {
     if textured {
-        put_by_texel(out, at, x, y, stage)
+        put_blend(out, at, x, y, Source::Texture, stage)
     } else {
         put_arg(out, at, y, stage)
     }

@@ -1,7 +1,5 @@
 //! The text of an expression: its operation's template, with its arguments in it.
-use crate::blends::put_blend_current_alpha;
-use crate::blends::put_blend_diffuse_alpha;
-use crate::blends::put_blend_factor_alpha;
+use crate::blends::put_blend;
 use crate::blends::put_blend_texture_alpha;
 use crate::blends::put_blend_texture_alpha_pm;
 use crate::mixed::put_modulate_alpha_add_color;
@@ -19,6 +17,7 @@ use crate::sums::put_add_smooth;
 use crate::sums::put_subtract;
 use combiners::Expression;
 use combiners::Op;
+use combiners::Source;
 use combiners::arguments::put_arg;
 ghost use Prim.Native.Nat.{_<_};
 ghost use Rattle.text.specs.Buffer.{Wrote};
@@ -48,11 +47,11 @@ pub(crate) fn put_expression(
         Op::AddSigned2X => put_add_signed2x(out, at, x, y, stage),
         Op::Subtract => put_subtract(out, at, x, y, stage),
         Op::AddSmooth => put_add_smooth(out, at, x, y, stage),
-        Op::BlendDiffuseAlpha => put_blend_diffuse_alpha(out, at, x, y, stage),
+        Op::BlendDiffuseAlpha => put_blend(out, at, x, y, Source::Diffuse, stage),
         Op::BlendTextureAlpha => put_blend_texture_alpha(out, at, x, y, stage, textured),
-        Op::BlendFactorAlpha => put_blend_factor_alpha(out, at, x, y, stage),
+        Op::BlendFactorAlpha => put_blend(out, at, x, y, Source::Factor, stage),
         Op::BlendTextureAlphaPM => put_blend_texture_alpha_pm(out, at, x, y, stage, textured),
-        Op::BlendCurrentAlpha => put_blend_current_alpha(out, at, x, y, stage),
+        Op::BlendCurrentAlpha => put_blend(out, at, x, y, Source::Current, stage),
         Op::ModulateAlphaAddColor => put_modulate_alpha_add_color(out, at, x, y, stage),
         Op::ModulateColorAddAlpha => put_modulate_color_add_alpha(out, at, x, y, stage),
         Op::ModulateInvAlphaAddColor => put_modulate_inv_alpha_add_color(out, at, x, y, stage),

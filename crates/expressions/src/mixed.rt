@@ -5,9 +5,21 @@ use combiners::arguments::put_arg;
 use text::put;
 ghost use Prim.Native.Nat.{_<_};
 ghost use mathlib.Core.Bool.{true};
+ghost use Rattle.text.specs.Text.{lit, _⊕_};
 ghost use Rattle.text.specs.Buffer.{Wrote};
 ghost use Rattle.combiners.specs.Arguments.{argText};
 ghost use Rattle.combiners.specs.Combiners.{opText};
+
+// Argument 2, and the alpha of argument 1 added to it.
+fn put_plus_alpha(out: &mut [u8], at: usize, x: Arg, y: Arg, stage: u8) -> usize
+    requires { ⌜ stage < 8 ⌝ }
+    ensures { λ r. ⌜ Wrote (now (out .entry)) at (now (out .exit)) r (argText stage y ⊕ lit " + (" ⊕ argText stage x ⊕ lit ").a)") ⌝ }
+{
+    let mut p = put_arg(out, at, y, stage);
+    p = put(out, p, b" + (");
+    p = put_arg(out, p, x, stage);
+    put(out, p, b").a)")
+}
 
 pub(crate) fn put_modulate_alpha_add_color(
     out: &mut [u8],
@@ -41,10 +53,7 @@ pub(crate) fn put_modulate_color_add_alpha(
     let mut p = put(out, at, b"saturate(");
     p = put_arg(out, p, x, stage);
     p = put(out, p, b" * ");
-    p = put_arg(out, p, y, stage);
-    p = put(out, p, b" + (");
-    p = put_arg(out, p, x, stage);
-    put(out, p, b").a)")
+    put_plus_alpha(out, p, x, y, stage)
 }
 
 pub(crate) fn put_modulate_inv_alpha_add_color(
@@ -79,8 +88,5 @@ pub(crate) fn put_modulate_inv_color_add_alpha(
     let mut p = put(out, at, b"saturate((1.0 - ");
     p = put_arg(out, p, x, stage);
     p = put(out, p, b") * ");
-    p = put_arg(out, p, y, stage);
-    p = put(out, p, b" + (");
-    p = put_arg(out, p, x, stage);
-    put(out, p, b").a)")
+    put_plus_alpha(out, p, x, y, stage)
 }

@@ -2,10 +2,12 @@
 use Prim.Native.Nat.{ℕ, _+_, _*_, _≤_, _<_}
 use mathlib.Core.Path.{_≡_, refl, sym, ap, _∙_}
 use mathlib.Core.Bool.{Bool, true, false, cond}
-use mathlib.Core.List.{List}
+use mathlib.Core.List.{List, [], _∷_}
 use native.Mathlib.Omega.{arith}
 use borrow.Author.Tests.{eq-eqb, ne-eqb}
 use lib.Dec.{eqb}
+use denote.Enum.Declared.{tagOf}
+use types.Run.{OneOf, miss}
 use mir.Syntax.{w64}
 use mir.Val.{Fits}
 use lib.ListN.{length, take}
@@ -18,6 +20,7 @@ use Rattle.records.specs.Bodies.{kindByte, recordLength}
 use Rattle.records.specs.Reading.{readRecord}
 use Rattle.records.specs.declared.Kind.{Kind}
 use Rattle.records.specs.declared.Kind.the-variants as kind
+use Rattle.records.proofs.Kind.{the-type}
 use Rattle.records.specs.declared.Refusal.{Refusal}
 use Rattle.records.specs.declared.Refusal.the-variants.{EmitTooEarly}
 use Rattle.records.specs.declared.Reading.{Reading}
@@ -98,6 +101,22 @@ emitted-from b out n {h} e p t q r = (
   r ∙ ap (λ (y : ApplyAnswer). textAfter y h out) p ∙ ap (λ (y : Held). textAfter (applyAs kind.Emit n y (length out)) y out) e,
 )
 
+-- where a kind's part begins, and that a record that is no emit record is held and has room there
+pub last-place : (k : Kind) → OneOf (2 ∷ 3 ∷ []) (tagOf the-type k) → 79 ≡ placeOf (kindByte k)
+unfolding placeOf
+last-place kind.Key h = absurd (miss (2 ∷ 3 ∷ []) 0 tt h)
+last-place kind.Variant h = absurd (miss (2 ∷ 3 ∷ []) 1 tt h)
+last-place kind.Entry h = refl
+last-place kind.Emit h = refl
+
+pub valued : (k : Kind) → OneOf (0 ∷ 1 ∷ 2 ∷ []) (tagOf the-type k) → (n : ℕ) (h : Held) (room : ℕ)
+    → (applyAs k n h room ≡ Replaced n) × (placeOf (kindByte k) + recordLength k ≤ 113) × (recordLength k ≤ 59)
+unfolding applyAs placeOf
+valued kind.Key h n x room = (refl, omega arith, omega arith)
+valued kind.Variant h n x room = (refl, omega arith, omega arith)
+valued kind.Entry h n x room = (refl, omega arith, omega arith)
+valued kind.Emit h n x room = absurd (miss (0 ∷ 1 ∷ 2 ∷ []) 3 tt h)
+
 -- what is answered and left where a record is applied to held bytes
 module _ (held b out : List ℕ) where
   abbrev Answered : ℕ → List ℕ → List ℕ → Type 0
@@ -133,8 +152,9 @@ module _ (held b out : List ℕ) where
       short h = omega (arith, long)
 
       -- its part has room for it
-      pub room-for : (at : ℕ) → at + recordLength k ≤ 113 → recordLength k ≤ 59 → (at + n ≤ length held) × (n ≤ length b) × (n ≤ 59)
-      room-for at h l = (omega (arith, long, g), front b w took .within, omega (arith, long))
+      pub room-for : {at : ℕ} → at ≡ placeOf (kindByte k) → placeOf (kindByte k) + recordLength k ≤ 113 → recordLength k ≤ 59
+          → (at + n ≤ length held) × (n ≤ length b) × (n ≤ 59)
+      room-for e h l = (omega (arith, long, g, e), front b w took .within, omega (arith, long))
 
       is : applyAnswer (heldOf held) b (length out) ≡ applyAs k n (heldOf held) (length out)
       unfolding applyRead

@@ -14,7 +14,8 @@ ghost use mathlib.Core.Path.{_≡_};
 ghost use lib.ListN.{length, take};
 ghost use lib.Seq.{sets};
 ghost use Rattle.held.specs.Applying.{applyAs, textAfter};
-ghost use Rattle.service.specs.Applying.{answerTo, heldAfter, heldOf};
+ghost use Rattle.records.specs.Bodies.{kindByte};
+ghost use Rattle.service.specs.Applying.{answerTo, heldAfter, heldOf, placeOf};
 ghost use Rattle.service.specs.Packed.{packedApplied};
 
 // The values of the held records.
@@ -58,6 +59,17 @@ fn emit_from(held: &[u8], n: usize, text: &mut [u8]) -> u64
     }
 }
 
+// Where the part of a kind begins in the held bytes.
+fn place(kind: Kind) -> usize
+    ensures { λ r. ⌜ r ≡ placeOf (kindByte kind) ⌝ }
+{
+    match kind {
+        Kind::Key => 0,
+        Kind::Variant => 59,
+        _ => 79,
+    }
+}
+
 // The record's n bytes over those of its part of the held bytes, which begins at at.
 fn hold(held: &mut [u8], at: usize, bytes: &[u8], n: usize) -> u64
     requires { ⌜ (at + n ≤ length (now held)) × (n ≤ length (now bytes)) × (n ≤ 59) ⌝ }
@@ -86,10 +98,8 @@ pub extern "C" fn yuzuknoll_apply(held: &mut [u8], bytes: &[u8], text: &mut [u8]
     match answer {
         ReadAnswer::Refused(cause) => number_of(cause),
         ReadAnswer::Took(n) => match kind {
-            Kind::Key => hold(held, 0, bytes, n),
-            Kind::Variant => hold(held, 59, bytes, n),
-            Kind::Entry => hold(held, 79, bytes, n),
             Kind::Emit => emit_from(held, n, text),
+            _ => hold(held, place(kind), bytes, n),
         },
     }
 }

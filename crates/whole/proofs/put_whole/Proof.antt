@@ -22,10 +22,11 @@ returns c =
     let s3 = s4 .before .before .before .before .before in
     let s2 = s3 .before .before .before .before in
     let s1 = s2 .before .before .before .before .before in
-    let s = s1 .before .before .before .before .before in
-    (rw (← survey-live (s .args .k .stages) (s .args .u) (s .pre .0), ← s4 .before .point-sprite .ensures)
-    (s1 .put-front .ensures ⨾ s2 .put .ensures ⨾ s3 .put-parameters .ensures ⨾ s4 .put-sprite .ensures ⨾ s5 .put-locals .ensures ⨾ s6 .put-stages .ensures .0 ⨾ s7 .put-output .ensures),
-    s6 .put-stages .ensures .1)
+    let s = s1 .before .before .before .before .before in (
+      rw (← survey-live (s .args .k .stages) (s .args .u) (s .pre .0), ← s4 .before .point-sprite .ensures)
+          (s1 .put-front .ensures ⨾ s2 .put .ensures ⨾ s3 .put-parameters .ensures ⨾ s4 .put-sprite .ensures ⨾ s5 .put-locals .ensures ⨾ s6 .put-stages .ensures .0 ⨾ s7 .put-output .ensures),
+      s6 .put-stages .ensures .1,
+    )
 
 pub put-whole-spec : {M : Type 1} → statement M
 put-whole-spec =

@@ -2,7 +2,7 @@ use mathlib.Core.Path.{refl}
 use native.Mathlib.Omega.{arith}
 use Rattle.text.proofs.Laws.{_⨾_, keeps, same}
 use Rattle.combiners.specs.Arguments.{argText}
-use Rattle.expressions.proofs.Texels.{premultiplied}
+use Rattle.expressions.proofs.Blending.{premultiplied}
 use Rattle.expressions.proofs.blends.put_premultiplied.Statement.{statement}
 use Rattle.expressions.proofs.blends.put_premultiplied.Tie as tie
 

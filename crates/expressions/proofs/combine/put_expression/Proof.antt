@@ -1,9 +1,30 @@
-use Rattle.text.proofs.Laws.{texts, _⨾_, keeps}
-use native.Mathlib.Omega.{arith}
-use borrow.Author.Needs.{needs}
+use Rattle.text.proofs.Laws.{keeps, same}
+use Rattle.combiners.specs.Arguments.{argText}
 use Rattle.combiners.specs.Combiners.{expressionText, opText}
+use Rattle.expressions.proofs.Blending.{by-diffuse, by-factor, by-current}
 use Rattle.expressions.proofs.combine.put_expression.Statement.{statement}
 use Rattle.expressions.proofs.combine.put_expression.Tie as tie
+
+by-diffuse-returns : tie.Need-returns-11
+unfolding expressionText
+by-diffuse-returns c =
+    let s1 = c .before .before in
+    let a = s1 .before .before .before .before .before .before .before .args in
+    rw (s1 .before .before .enum-told11 .given .1) (same (by-diffuse (a .stage) (argText (a .stage) (a .e .arg1)) (argText (a .stage) (a .e .arg2)) (a .textured)) (s1 .put-blend .ensures))
+
+by-factor-returns : tie.Need-returns-13
+unfolding expressionText
+by-factor-returns c =
+    let s1 = c .before .before in
+    let a = s1 .before .before .before .before .before .before .before .args in
+    rw (s1 .before .before .enum-told13 .given .1) (same (by-factor (a .stage) (argText (a .stage) (a .e .arg1)) (argText (a .stage) (a .e .arg2)) (a .textured)) (s1 .put-blend2 .ensures))
+
+by-current-returns : tie.Need-returns-15
+unfolding expressionText
+by-current-returns c =
+    let s1 = c .before .before in
+    let a = s1 .before .before .before .before .before .before .before .args in
+    rw (s1 .before .before .enum-told15 .given .1) (same (by-current (a .stage) (argText (a .stage) (a .e .arg1)) (argText (a .stage) (a .e .arg2)) (a .textured)) (s1 .put-blend3 .ensures))
 
 pub put-expression-spec : {M : Type 1} → statement M
 unfolding expressionText opText
@@ -72,16 +93,16 @@ put-expression-spec =
     (λ c. rw (c .before .before .before .before .enum-told9 .given .1) (c .before .before .put-subtract .ensures))
     (λ c. keeps (c .before .before .put-add-smooth .ensures))
     (λ c. rw (c .before .before .before .before .enum-told10 .given .1) (c .before .before .put-add-smooth .ensures))
-    (λ c. keeps (c .before .before .put-blend-diffuse-alpha .ensures))
-    (λ c. rw (c .before .before .before .before .enum-told11 .given .1) (c .before .before .put-blend-diffuse-alpha .ensures))
+    (λ c. keeps (c .before .before .put-blend .ensures))
+    by-diffuse-returns
     (λ c. keeps (c .before .before .put-blend-texture-alpha .ensures))
     (λ c. rw (c .before .before .before .before .enum-told12 .given .1) (c .before .before .put-blend-texture-alpha .ensures))
-    (λ c. keeps (c .before .before .put-blend-factor-alpha .ensures))
-    (λ c. rw (c .before .before .before .before .enum-told13 .given .1) (c .before .before .put-blend-factor-alpha .ensures))
+    (λ c. keeps (c .before .before .put-blend2 .ensures))
+    by-factor-returns
     (λ c. keeps (c .before .before .put-blend-texture-alpha-pm .ensures))
     (λ c. rw (c .before .before .before .before .enum-told14 .given .1) (c .before .before .put-blend-texture-alpha-pm .ensures))
-    (λ c. keeps (c .before .before .put-blend-current-alpha .ensures))
-    (λ c. rw (c .before .before .before .before .enum-told15 .given .1) (c .before .before .put-blend-current-alpha .ensures))
+    (λ c. keeps (c .before .before .put-blend3 .ensures))
+    by-current-returns
     (λ c. keeps (c .before .before .put-modulate-alpha-add-color .ensures))
     (λ c. rw (c .before .before .before .before .enum-told16 .given .1) (c .before .before .put-modulate-alpha-add-color .ensures))
     (λ c. keeps (c .before .before .put-modulate-color-add-alpha .ensures))

@@ -7,14 +7,11 @@ use Rattle.expressions.proofs.mixed.put_modulate_inv_color_add_alpha.Ti
 returns : tie.Need-returns
 unfolding opText
 returns c =
-    let s7 = c .before .before in
-    let s6 = s7 .before .before .before .before .before in
-    let s5 = s6 .before .before .before .before in
-    let s4 = s5 .before .before .before .before .before in
+    let s4 = c .before .before in
     let s3 = s4 .before .before .before .before in
     let s2 = s3 .before .before .before .before .before in
     let s1 = s2 .before .before .before .before in
-    s1 .put .ensures ⨾ s2 .put-arg3 .ensures ⨾ s3 .put2 .ensures ⨾ s4 .put-arg6 .ensures ⨾ s5 .put3 .ensures ⨾ s6 .put-arg9 .ensures ⨾ s7 .put4 .ensures
+    s1 .put .ensures ⨾ s2 .put-arg3 .ensures ⨾ s3 .put2 .ensures ⨾ s4 .put-plus-alpha .ensures
 
 pub put-modulate-inv-color-add-alpha-spec : {M : Type 1} → statement M
 put-modulate-inv-color-add-alpha-spec =
@@ -26,10 +23,5 @@ put-modulate-inv-color-add-alpha-spec =
     (λ c. refl)
     (λ c κs. tt)
     (λ c κs. c .before .before .before .before .before .before .before .before .before .before .before .before .before .before .before .before .pre)
-    (λ c. refl)
-    (λ c κs. tt)
-    (λ c κs. c .before .before .before .before .before .before .before .before .before .before .before .before .before .before .before .before .before .before .before .before .before .before .before .before .before .pre)
-    (λ c. refl)
-    (λ c κs. tt)
     (λ c. keeps (returns c))
     returns)

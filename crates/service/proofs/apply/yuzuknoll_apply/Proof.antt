@@ -2,10 +2,9 @@
 use mathlib.Core.Path.{refl}
 use native.Mathlib.Omega.{arith}
 use Rattle.records.proofs.RoundTrips.{Bytes}
-use Rattle.held.specs.Applying.{applyAs}
-use Rattle.service.specs.Applying.{heldOf, placeOf}
+use Rattle.service.specs.Applying.{heldOf}
 use Rattle.service.specs.Packed.{packedApplied}
-use Rattle.service.proofs.Applying.{wrong-length, answered-refused, short, room-for, answered-held, answered-emit, emit-holds-none}
+use Rattle.service.proofs.Applying.{wrong-length, answered-refused, short, room-for, valued, answered-held, answered-emit, emit-holds-none}
 use Rattle.service.proofs.apply.yuzuknoll_apply.Statement.{statement}
 use Rattle.service.proofs.apply.yuzuknoll_apply.Tie as tie
 
@@ -23,72 +22,6 @@ returns-2 c =
     let s = i .before .before .before .before in
     answered-refused (s .args .held .now) (s .args .bytes .now) (s .args .text .now) (i .if1 .left) (r .read .ensures) (t .before .answer .given .1) (c .number-of .ensures)
 
-hold-requires : tie.Need-hold-requires
-hold-requires c κs =
-    let t = c .before .before .before in
-    let r = t .before .before .before .before in
-    let i = r .before in
-    let k = i .before .before in
-    let s = k .before .before in
-    let w : Bytes (s .args .bytes .now) = λ j. k .shared-slice-known .given j .fits in
-    room-for (s .args .held .now) (s .args .bytes .now) (s .args .text .now) (i .if1 .left) (r .read .ensures) (t .before .answer2 .given .1) w (c .before .enum-told .given .1) 0 (omega arith) (omega arith)
-
-returns-3 : tie.Need-returns-3
-unfolding applyAs placeOf packedApplied
-returns-3 c =
-    let h = c .before .before in
-    let t = h .before .before .before .before in
-    let r = t .before .before .before .before in
-    let i = r .before in
-    let k = i .before .before in
-    let s = k .before .before in
-    let w : Bytes (s .args .bytes .now) = λ j. k .shared-slice-known .given j .fits in
-    answered-held (s .args .held .now) (s .args .bytes .now) (s .args .text .now) (i .if1 .left) (r .read .ensures) (t .before .answer2 .given .1) w (h .before .before .enum-told .given .1) refl refl (h .hold .ensures .0) (h .hold .ensures .1)
-
-hold-requires-2 : tie.Need-hold-requires-2
-hold-requires-2 c κs =
-    let t = c .before .before .before in
-    let r = t .before .before .before .before in
-    let i = r .before in
-    let k = i .before .before in
-    let s = k .before .before in
-    let w : Bytes (s .args .bytes .now) = λ j. k .shared-slice-known .given j .fits in
-    room-for (s .args .held .now) (s .args .bytes .now) (s .args .text .now) (i .if1 .left) (r .read .ensures) (t .before .answer2 .given .1) w (c .before .enum-told2 .given .1) 59 (omega arith) (omega arith)
-
-returns-4 : tie.Need-returns-4
-unfolding applyAs placeOf packedApplied
-returns-4 c =
-    let h = c .before .before in
-    let t = h .before .before .before .before in
-    let r = t .before .before .before .before in
-    let i = r .before in
-    let k = i .before .before in
-    let s = k .before .before in
-    let w : Bytes (s .args .bytes .now) = λ j. k .shared-slice-known .given j .fits in
-    answered-held (s .args .held .now) (s .args .bytes .now) (s .args .text .now) (i .if1 .left) (r .read .ensures) (t .before .answer2 .given .1) w (h .before .before .enum-told2 .given .1) refl refl (h .hold2 .ensures .0) (h .hold2 .ensures .1)
-
-hold-requires-3 : tie.Need-hold-requires-3
-hold-requires-3 c κs =
-    let t = c .before .before .before in
-    let r = t .before .before .before .before in
-    let i = r .before in
-    let k = i .before .before in
-    let s = k .before .before in
-    let w : Bytes (s .args .bytes .now) = λ j. k .shared-slice-known .given j .fits in
-    room-for (s .args .held .now) (s .args .bytes .now) (s .args .text .now) (i .if1 .left) (r .read .ensures) (t .before .answer2 .given .1) w (c .before .enum-told3 .given .1) 79 (omega arith) (omega arith)
-
-returns-5 : tie.Need-returns-5
-unfolding applyAs placeOf packedApplied
-returns-5 c =
-    let h = c .before .before in
-    let t = h .before .before .before .before in
-    let r = t .before .before .before .before in
-    let i = r .before in
-    let k = i .before .before in
-    let s = k .before .before in
-    let w : Bytes (s .args .bytes .now) = λ j. k .shared-slice-known .given j .fits in
-    answered-held (s .args .held .now) (s .args .bytes .now) (s .args .text .now) (i .if1 .left) (r .read .ensures) (t .before .answer2 .given .1) w (h .before .before .enum-told3 .given .1) refl refl (h .hold3 .ensures .0) (h .hold3 .ensures .1)
-
 emit-from-requires : tie.Need-emit-from-requires
 emit-from-requires c κs =
     let t = c .before .before .before .before in
@@ -97,10 +30,10 @@ emit-from-requires c κs =
     let k = i .before .before in
     let s = k .before .before in
     let w : Bytes (s .args .bytes .now) = λ j. k .shared-slice-known .given j .fits in
-    (i .if1 .left, short (s .args .held .now) (s .args .bytes .now) (s .args .text .now) (i .if1 .left) (r .read .ensures) (t .before .answer2 .given .1) w (c .before .before .enum-told4 .given .1) (omega arith))
+    (i .if1 .left, short (s .args .held .now) (s .args .bytes .now) (s .args .text .now) (i .if1 .left) (r .read .ensures) (t .before .answer2 .given .1) w (c .before .before .enum-told .given .1) (omega arith))
 
-returns-6 : tie.Need-returns-6
-returns-6 c =
+returns-3 : tie.Need-returns-3
+returns-3 c =
     let h = c .before .before in
     let t = h .before .before .before .before .before in
     let r = t .before .before .before .before in
@@ -108,7 +41,30 @@ returns-6 c =
     let k = i .before .before in
     let s = k .before .before in
     let w : Bytes (s .args .bytes .now) = λ j. k .shared-slice-known .given j .fits in
-    answered-emit (s .args .held .now) (s .args .bytes .now) (s .args .text .now) (i .if1 .left) (r .read .ensures) (t .before .answer2 .given .1) w (h .before .before .before .enum-told4 .given .1) (emit-holds-none (heldOf (s .args .held .now)) _ _) (h .emit-from .ensures .0) (h .emit-from .ensures .1)
+    answered-emit (s .args .held .now) (s .args .bytes .now) (s .args .text .now) (i .if1 .left) (r .read .ensures) (t .before .answer2 .given .1) w (h .before .before .before .enum-told .given .1) (emit-holds-none (heldOf (s .args .held .now)) _ _) (h .emit-from .ensures .0) (h .emit-from .ensures .1)
+
+hold-requires : tie.Need-hold-requires
+hold-requires c κs =
+    let t = c .before .before .before in
+    let r = t .before .before .before .before in
+    let i = r .before in
+    let k = i .before .before in
+    let s = k .before .before in
+    let w : Bytes (s .args .bytes .now) = λ j. k .shared-slice-known .given j .fits in
+    let v = valued (r .read .result .found .kind) (c .before .before .match2 .keys2) 0 (heldOf (s .args .held .now)) 0 in
+    room-for (s .args .held .now) (s .args .bytes .now) (s .args .text .now) (i .if1 .left) (r .read .ensures) (t .before .answer2 .given .1) w refl (c .place .ensures) (v .1) (v .2)
+
+returns-4 : tie.Need-returns-4
+unfolding packedApplied
+returns-4 c =
+    let h = c .before .before in
+    let t = h .before .before .before .before in
+    let r = t .before .before .before .before in
+    let i = r .before in
+    let k = i .before .before in
+    let s = k .before .before in
+    let w : Bytes (s .args .bytes .now) = λ j. k .shared-slice-known .given j .fits in
+    answered-held (s .args .held .now) (s .args .bytes .now) (s .args .text .now) (i .if1 .left) (r .read .ensures) (t .before .answer2 .given .1) w refl (valued (r .read .result .found .kind) (h .before .before .before .match2 .keys2) _ _ _ .0) (h .before .place .ensures) (h .hold .ensures .0) (h .hold .ensures .1)
 
 pub yuzuknoll-apply-spec : {M : Type 1} → statement M
 yuzuknoll-apply-spec =
@@ -120,20 +76,12 @@ yuzuknoll-apply-spec =
     (λ c κs. tt)
     (λ c. c .match .keys2)
     (λ c. c .match2 .keys1)
-    hold-requires
-    (λ c. c .match2 .keys2)
-    hold-requires-2
-    (λ c. c .match2 .keys3)
-    hold-requires-3
-    (λ c. c .match2 .keys4)
     emit-from-requires
+    (λ c κs. tt)
+    hold-requires
     returns-2
-    (λ c. c .before .held .given)
-    returns-3
-    (λ c. c .before .held2 .given)
-    returns-4
-    (λ c. c .before .held3 .given)
-    returns-5
     (λ c. refl)
     (λ c. c .before .text .given)
-    returns-6)
+    returns-3
+    (λ c. c .before .held .given)
+    returns-4)
