@@ -2,14 +2,6 @@
 use mathlib.Core.Bool.{Bool, true, false, not, _&&_, _||_, true≢false}
 use mathlib.Core.Path.{_≡_, refl, sym}
 
-pub held : (b : Bool) → not b ≡ false → b ≡ true
-held true e = refl
-held false e = absurd (true≢false e)
-
-pub unheld : (b : Bool) → not b ≡ true → b ≡ false
-unheld true e = absurd (true≢false (sym e))
-unheld false e = refl
-
 pub neither : (u v : Bool) → not (u || v) ≡ true → (u ≡ false) × (v ≡ false)
 neither true v e = absurd (true≢false (sym e))
 neither false true e = absurd (true≢false (sym e))

@@ -1,3 +1,4 @@
 pub mod Active
 pub mod Guards
+mod PlainStages
 pub mod Rest

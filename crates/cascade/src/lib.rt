@@ -1,6 +1,7 @@
 //! The cascade of a key: its active stages, and what each reads and writes.
 pub mod decode;
 pub mod keys;
+mod plain;
 pub mod reading;
 pub mod walks;
 

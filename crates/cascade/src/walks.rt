@@ -11,6 +11,7 @@ use crate::keys::is_bump;
 use crate::keys::names_factor;
 use crate::keys::reads_constant;
 use crate::keys::textured;
+use crate::plain::is_plain;
 use crate::reading::alpha_written;
 use crate::reading::has_text;
 use crate::reading::is_lined;
@@ -124,6 +125,19 @@ fn add_fact(f: Facts, s: Stage, i: u8) -> Facts
     requires { ⌜ (i < 8) × (f .mask < 128) ⌝ }
     ensures { λ r. ⌜ r ≡ addFact i s f ⌝ }
 {
+    if is_plain(s) {
+        let c = s.colour;
+        let a = s.alpha;
+        return Facts {
+            mask: flag(textured(s)) + 2 * f.mask,
+            constant: f.constant,
+            factor: ((c.op == 14) | (a.op == 14)) | f.factor,
+            live: f.live,
+            op: warns_op(s) | f.op,
+            selector: f.selector,
+            modifier: f.modifier,
+        };
+    }
     Facts {
         mask: flag(textured(s)) + 2 * f.mask,
         constant: last_constant(f.constant, s, i),

@@ -1,6 +1,6 @@
 -- What an accepted emission answers and writes, from what its parts promise.
 use Prim.Native.Nat.{ℕ, _+_, _≤_, _<_}
-use mathlib.Core.Bool.{Bool, true, false, not, _&&_, cond, true≢false}
+use mathlib.Core.Bool.{Bool, true, false, _&&_, cond}
 use mathlib.Core.Path.{_≡_, refl, ap, sym, subst, _∙_}
 use mathlib.Core.List.{List, [], _++_}
 use native.Mathlib.Nat.{zero-add}
@@ -28,10 +28,6 @@ use Rattle.metal.specs.declared.Variant.{Variant}
 use Rattle.metal.specs.declared.Entry.{Entry}
 use Rattle.metal.specs.declared.Emitted.{Emitted}
 use Rattle.metal.proofs.Names.Whole.{demand}
-
-pub held : (b : Bool) → not b ≡ false → b ≡ true
-held true e = refl
-held false e = absurd (true≢false e)
 
 warnings-le : (a b c : Bool) → cond a 1 0 + cond b 2 0 + cond c 4 0 ≤ 7
 warnings-le true true true = omega arith

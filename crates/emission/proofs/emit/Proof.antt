@@ -3,11 +3,11 @@ use Prim.Native.Nat.{_≤_, _<_}
 use mathlib.Core.Bool.{not}
 use mathlib.Core.Path.{_≡_, refl, sym, ap, _∙_}
 use native.Mathlib.Omega.{arith}
-use borrow.Author.Tests.{lt-ltb, le-ltb}
+use borrow.Author.Tests.{lt-ltb, le-ltb, not-false}
 use lib.ListN.{length, length-map}
 use Rattle.metal.specs.Results.{textOf, answerOf}
 use Rattle.metal.specs.declared.Answer.the-variants.{Text}
-use Rattle.emission.proofs.Answers.{held, survey-warning, entry-short, laid-fits, laid-over, laid-length, accepted, demanded}
+use Rattle.emission.proofs.Answers.{survey-warning, entry-short, laid-fits, laid-over, laid-length, accepted, demanded}
 use Rattle.emission.proofs.emit.Statement.{statement}
 use Rattle.emission.proofs.emit.Tie as tie
 use Rattle.emission.proofs.emit.Lts as lts
@@ -32,7 +32,7 @@ returns-3 c =
 put-text-requires : tie.Need-put-text-requires
 put-text-requires c κs =
     let s3 = c .before .before in
-    (c .before .survey .ensures, entry-short _ (sym (s3 .before .entry-good .ensures) ∙ held _ (s3 .if3 .left)))
+    (c .before .survey .ensures, entry-short _ (sym (s3 .before .entry-good .ensures) ∙ not-false _ (s3 .if3 .left)))
 
 returns-4 : tie.Need-returns-4
 unfolding answerOf
@@ -64,7 +64,7 @@ returns-5 c =
     let v = s .args .variant in
     let n = s .args .entry in
     let l : length (k .stages) ≡ 8 = sym (length-map (k .stages) _) ∙ s .good .0 .1 .1 .0 .1 .0 .1 in
-    let g = sym (s3 .before .entry-good .ensures) ∙ held _ (s3 .if3 .left) in
+    let g = sym (s3 .before .entry-good .ensures) ∙ not-false _ (s3 .if3 .left) in
     let w = s5 .put-text .ensures in
     let h : length (textOf k v n) ≤ length (s .args .out .now) = omega (arith, w .0, laid-length (textOf k v n) (s .args .out .now) (w .1 .0), s6 .if4 .left) in
     let e = accepted k v n (s4 .survey .result) _ _ _ (s4 .survey .ensures) (w .0) (w .1 .1) (c .warning-of .ensures) in

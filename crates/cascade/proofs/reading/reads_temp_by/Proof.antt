@@ -1,10 +1,11 @@
 use mathlib.Core.Path.{sym, _∙_}
-use Rattle.cascade.proofs.Guards.{unheld, and-false}
+use borrow.Author.Tests.{not-true}
+use Rattle.cascade.proofs.Guards.{and-false}
 use Rattle.cascade.proofs.reading.reads_temp_by.Statement.{statement}
 use Rattle.cascade.proofs.reading.reads_temp_by.Tie as tie
 
 returns : tie.Need-returns
-returns c = rw (sym (c .before .keeps .ensures) ∙ unheld _ (c .if1 .taken), and-false)
+returns c = rw (sym (c .before .keeps .ensures) ∙ not-true _ (c .if1 .taken), and-false)
 
 returns-2 : tie.Need-returns-2
 returns-2 c = rw (c .falls-back .ensures, c .before .before .keeps .ensures)

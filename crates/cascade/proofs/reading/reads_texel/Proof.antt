@@ -1,6 +1,7 @@
 use mathlib.Core.Path.{sym, _∙_}
+use borrow.Author.Tests.{not-true}
 use Rattle.cascade.specs.Reading.{readsTexel}
-use Rattle.cascade.proofs.Guards.{unheld, and-false}
+use Rattle.cascade.proofs.Guards.{and-false}
 use Rattle.cascade.proofs.reading.reads_texel.Statement.{statement}
 use Rattle.cascade.proofs.reading.reads_texel.Tie as tie
 
@@ -10,7 +11,7 @@ returns c = rw (← c .before .before .textured .ensures, sym (c .before .reads-
 
 returns-2 : tie.Need-returns-2
 unfolding readsTexel
-returns-2 c = let s1 = c .before .before in rw (← s1 .before .before .textured .ensures, sym (s1 .before .reads-texel-by .ensures) ∙ s1 .if1 .left, sym (c .before .reads-texel-by2 .ensures) ∙ unheld _ (c .if2 .taken), and-false)
+returns-2 c = let s1 = c .before .before in rw (← s1 .before .before .textured .ensures, sym (s1 .before .reads-texel-by .ensures) ∙ s1 .if1 .left, sym (c .before .reads-texel-by2 .ensures) ∙ not-true _ (c .if2 .taken), and-false)
 
 returns-3 : tie.Need-returns-3
 unfolding readsTexel
