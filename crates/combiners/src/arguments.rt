@@ -41,7 +41,7 @@ pub fn arg_of(byte: u8, textured: bool) -> Arg
     }
 }
 
-pub fn put_source(out: &mut [u8], at: usize, s: Source, stage: u8) -> usize
+fn put_source(out: &mut [u8], at: usize, s: Source, stage: u8) -> usize
     requires { ⌜ stage < 8 ⌝ }
     ensures { λ r. ⌜ Wrote (now (out .entry)) at (now (out .exit)) r (sourceText stage s) ⌝ }
 {

@@ -1,38 +1,11 @@
-use mathlib.Core.Path.{refl}
-use Rattle.text.proofs.Laws.{_⨾_, keeps}
+use Rattle.text.proofs.Laws.{keeps}
 use Rattle.expressions.proofs.blends.put_blend.Statement.{statement}
 use Rattle.expressions.proofs.blends.put_blend.Tie as tie
-
-returns : tie.Need-returns
-returns c =
-    let s9 = c .before .before in
-    let s8 = s9 .before .before .before .before .before in
-    let s7 = s8 .before .before .before .before in
-    let s6 = s7 .before .before .before .before .before in
-    let s5 = s6 .before .before .before .before in
-    let s4 = s5 .before .before .before .before .before in
-    let s3 = s4 .before .before .before .before in
-    let s2 = s3 .before .before .before .before .before in
-    let s1 = s2 .before .before .before .before in
-    s1 .put .ensures ⨾ s2 .put-arg3 .ensures ⨾ s3 .put2 .ensures ⨾ s4 .put-source .ensures ⨾ s5 .put3 .ensures ⨾ s6 .put-arg8 .ensures ⨾ s7 .put4 .ensures ⨾ s8 .put-source2 .ensures ⨾ s9 .put5 .ensures
 
 pub put-blend-spec : {M : Type 1} → statement M
 put-blend-spec =
     tie.close
     (tie.spec
-    (λ c. refl)
-    (λ c κs. tt)
-    (λ c κs. c .before .before .before .before .before .before .before .pre)
-    (λ c. refl)
-    (λ c κs. tt)
-    (λ c κs. c .before .before .before .before .before .before .before .before .before .before .before .before .before .before .before .before .pre)
-    (λ c. refl)
-    (λ c κs. tt)
-    (λ c κs. c .before .before .before .before .before .before .before .before .before .before .before .before .before .before .before .before .before .before .before .before .before .before .before .before .before .pre)
-    (λ c. refl)
-    (λ c κs. tt)
-    (λ c κs. c .before .before .before .before .before .before .before .before .before .before .before .before .before .before .before .before .before .before .before .before .before .before .before .before .before .before .before .before .before .before .before .before .before .before .pre)
-    (λ c. refl)
-    (λ c κs. tt)
-    (λ c. keeps (returns c))
-    returns)
+    (λ c κs. c .before .before .pre)
+    (λ c. keeps (c .before .before .put-blend-by .ensures))
+    (λ c. c .before .before .put-blend-by .ensures))
