@@ -17,12 +17,13 @@ abbrev pub readNumber : ReadAnswer → ℕ
 readNumber (Took n) = 0
 readNumber (Refused c) = numberOf c
 
--- The number of the refusal of a part that is to be one record of a kind and a size: the reader's for no byte; 2 for another kind; 1 for another
--- size; then the reader's. 01: "Kind comes before length, length before the body's causes".
-unfoldable pub partNumber : ℕ → ℕ → List ℕ → ℕ
-partNumber kind size b =
-    cond (eqb (length b) 0) (readNumber (readRecord b .answer))
-    (cond (eqb (getD b 0 0) kind) (cond (eqb (length b) size) (readNumber (readRecord b .answer)) 1) 2)
+-- The number of the refusal of a part that is to be one record of a kind and a size, of which the reader answered a: the reader's for no byte; 2 for
+-- another kind; 1 for another size; then the reader's. 01: "Kind comes before length, length before the body's causes".
+unfoldable pub numberBy : ReadAnswer → ℕ → ℕ → List ℕ → ℕ
+numberBy a kind size b = cond (eqb (length b) 0) (readNumber a) (cond (eqb (getD b 0 0) kind) (cond (eqb (length b) size) (readNumber a) 1) 2)
+
+abbrev pub partNumber : ℕ → ℕ → List ℕ → ℕ
+partNumber kind size b = numberBy (readRecord b .answer) kind size b
 
 -- 01's kind bytes 1, 2 and 3, and bodies of 58, 19 and 33 bytes
 abbrev pub keyNumber : List ℕ → ℕ

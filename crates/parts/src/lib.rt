@@ -6,8 +6,7 @@ use records::ReadAnswer;
 use records::Refusal;
 use records::number;
 ghost use mathlib.Core.Path.{_≡_};
-ghost use Rattle.parts.specs.Parts.{partNumber, readNumber};
-ghost use Rattle.records.specs.Reading.{readRecord};
+ghost use Rattle.parts.specs.Parts.{numberBy, readNumber};
 ghost use Rattle.records.specs.Refusals.{numberOf};
 
 // 01's number of a refusal.
@@ -29,8 +28,7 @@ fn read_number(answer: ReadAnswer) -> u64
 
 // The number of the refusal of lent bytes that are to be one record of a kind, of size bytes, by what the reader answered of them; 0 for none.
 pub fn part_number(kind: u8, size: usize, bytes: &[u8], answer: ReadAnswer) -> u64
-    requires { ⌜ answer ≡ readRecord (now bytes) .answer ⌝ }
-    ensures { λ r. ⌜ r ≡ partNumber kind size (now (bytes .entry)) ⌝ }
+    ensures { λ r. ⌜ r ≡ numberBy answer kind size (now (bytes .entry)) ⌝ }
 {
     let n = read_number(answer);
     if bytes.len() == 0 {

@@ -18,7 +18,7 @@ use Rattle.metal.specs.declared.Answer.the-variants.{Text, Refused}
 use Rattle.metal.proofs.Length.{at-most}
 use Rattle.records.specs.Reading.{readRecord}
 use Rattle.records.specs.declared.Reading.{Reading}
-use Rattle.parts.specs.Parts.{keyNumber, variantNumber, entryNumber}
+use Rattle.parts.specs.Parts.{numberBy, partNumber, keyNumber, variantNumber, entryNumber}
 use Rattle.service.specs.Emitting.{partsNumber, emitted, emittedBuffer}
 use Rattle.service.specs.Packed.{packed}
 
@@ -50,6 +50,10 @@ module _ (k : Key) (v : Variant) (e : Entry) (out : List ℕ) {x : Answer} (p : 
   pub values-answered : {n : ℕ} {out′ : List ℕ} → n ≡ packed a → out′ ≡ bufferAfter x (textOf k v e) out →
       (n ≡ packed (answerOf k v e (length out))) × (out′ ≡ bufferAfter (answerOf k v e (length out)) (textOf k v e) out)
   values-answered q l = (q ∙ ap packed (sym t ∙ p), l ∙ ap (λ (y : Answer). bufferAfter y (textOf k v e) out) p)
+
+-- the number of a part, from what was read of it
+pub number-read : (kind size : ℕ) (b : List ℕ) {r : Reading} {n : ℕ} → r ≡ readRecord b → n ≡ numberBy (r .answer) kind size b → n ≡ partNumber kind size b
+number-read kind size b e p = p ∙ ap (λ (r : Reading). numberBy (r .answer) kind size b) e
 
 module _ (k v e out : List ℕ) where
   -- a part is refused

@@ -29,7 +29,7 @@ use Rattle.held.specs.declared.Held.{Held}
 use Rattle.held.specs.declared.ApplyAnswer.{ApplyAnswer}
 use Rattle.held.specs.declared.ApplyAnswer.the-variants.{Replaced, Text, Refused}
 use Rattle.records.proofs.RoundTrips.{Bytes, Rewrites, read-rewrites, written-reads}
-use Rattle.parts.specs.Parts.{readNumber, partNumber, keyNumber, variantNumber, entryNumber, keyIn, variantIn, entryIn}
+use Rattle.parts.specs.Parts.{readNumber, numberBy, partNumber, keyNumber, variantNumber, entryNumber, keyIn, variantIn, entryIn}
 use Rattle.service.specs.Applying.{keyPart, variantPart, entryPart, heldOf, answerTo, placeOf, replacedBytes, heldAfter}
 
 -- A record that was read has eight stages and a name of 32 bytes.
@@ -112,7 +112,7 @@ module _ (b : List ℕ) {n : ℕ} (w : Bytes b) (t : readRecord b .answer ≡ re
     first = sym (getD-take n b 0 0 (omega (arith, size))) ∙ own-first
 
     there : partNumber (kindByte k) n (take n b) ≡ 0
-    unfolding partNumber
+    unfolding numberBy
     there = rw (ne-eqb (length (take n b)) 0 (λ e. omega (arith, size, own-length)), eq-eqb _ _ own-first, eq-eqb _ _ own-length, alone)
 
 -- Bytes laid over a list.

@@ -1,8 +1,8 @@
-use mathlib.Core.Path.{sym, ap}
+use mathlib.Core.Path.{sym}
 use native.Mathlib.Omega.{arith}
 use lib.Seq.{length-take-le}
 use borrow.Author.Needs.{needs}
-use Rattle.records.specs.declared.Reading.{Reading}
+use Rattle.service.proofs.Emitting.{number-read}
 use Rattle.service.proofs.Applying.{held-is}
 use Rattle.service.proofs.apply.held_of.Statement.{statement}
 use Rattle.service.proofs.apply.held_of.Tie as tie
@@ -11,7 +11,9 @@ returns : tie.Need-returns
 returns c =
     let r = c .before .before .before .before .before .before in
     let s = r .before .before .before .before .before .before .before in
-    held-is (s .args .held .now) (r .before .before .read .ensures) (r .before .read2 .ensures) (r .read3 .ensures) (c .before .before .part-number .ensures) (c .before .part-number2 .ensures) (c .part-number3 .ensures)
+    held-is (s .args .held .now) (r .before .before .read .ensures) (r .before .read2 .ensures) (r .read3 .ensures)
+    (number-read 1 59 _ (r .before .before .read .ensures) (c .before .before .part-number .ensures)) (number-read 2 20 _ (r .before .read2 .ensures) (c .before .part-number2 .ensures))
+    (number-read 3 34 _ (r .read3 .ensures) (c .part-number3 .ensures))
 
 pub held-of-spec : {M : Type 1} → statement M
 held-of-spec =
@@ -27,7 +29,7 @@ held-of-spec =
     (λ c κs. tt)
     (λ c κs. tt)
     (λ c κs. tt)
-    (λ c κs. ap (λ (r : Reading). r .answer) (c .before .before .before .before .before .read .ensures))
-    (λ c κs. ap (λ (r : Reading). r .answer) (c .before .before .before .before .before .read2 .ensures))
-    (λ c κs. ap (λ (r : Reading). r .answer) (c .before .before .before .before .before .read3 .ensures))
+    (λ c κs. tt)
+    (λ c κs. tt)
+    (λ c κs. tt)
     returns)
