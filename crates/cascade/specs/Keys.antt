@@ -1,6 +1,6 @@
 -- Keys and the cascade: active stages, what an op reads, the unbound fallback, bump stages, the mask and the row count.
 use Prim.Native.Nat.{ℕ, suc, _+_, _*_}
-use mathlib.Core.Bool.{Bool, true, false, not, _&&_, _||_, cond}
+use mathlib.Core.Bool.{Bool, false, not, _&&_, _||_, cond}
 use mathlib.Core.List.{List, [], _∷_}
 use lib.Dec.{eqb}
 use Rattle.combiners.specs.Codes.{bit, selector, disable, selectArg1, selectArg2, blendFactorAlpha, bumpEnvMap, bumpEnvMapLuminance, dotProduct3, texture, factor, constant}

@@ -1,7 +1,7 @@
 -- The reading rule: which locals a stage's expressions read, whether TEMP is live, which stages have a line, which lookups are marked.
 -- 01: "The Rust searches text (`names_local`); this rule reads the key alone, and they agree."
 use Prim.Native.Nat.{ℕ, suc}
-use mathlib.Core.Bool.{Bool, true, false, not, _&&_, _||_, cond}
+use mathlib.Core.Bool.{Bool, false, not, _&&_, _||_, cond}
 use mathlib.Core.List.{List, [], _∷_}
 use lib.Dec.{eqb}
 use Rattle.combiners.specs.Codes.{disable, bumpEnvMapLuminance, texture, temp}

@@ -2,8 +2,8 @@
 -- 01: "Alpha is one of: from colour (op 24 without fallback), kept (alpha op 1, or 22 or 23 without fallback), or an expression. A bump stage has
 -- no expressions at all and is passed over early."
 use Prim.Native.Nat.{ℕ}
-use mathlib.Core.Bool.{Bool, true, false, cond}
-use mathlib.Core.List.{List, [], _∷_}
+use mathlib.Core.Bool.{Bool, false, cond}
+use mathlib.Core.List.{[], _∷_}
 use lib.Dec.{eqb}
 use Rattle.text.specs.Text.{Text, lit, pick}
 use Rattle.text.specs.Format.{format, _≔_}
@@ -19,7 +19,6 @@ use Rattle.cascade.specs.declared.Combiner.{Combiner}
 use Rattle.cascade.specs.declared.Stage.{Stage}
 use Rattle.cascade.specs.declared.Alpha.{Alpha}
 use Rattle.cascade.specs.declared.Alpha.the-variants.{FromColour, Kept, Written}
-use Rattle.cascade.specs.declared.Expressions.{Expressions}
 use Rattle.cascade.specs.declared.Decoded.{Decoded}
 use Rattle.cascade.specs.declared.Decoded.the-variants.{Writes, Bump}
 

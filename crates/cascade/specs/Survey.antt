@@ -1,6 +1,6 @@
 -- What a key says before any byte of text: everything of the result but the text's length, and what the text needs to know of the whole cascade.
-use Prim.Native.Nat.{ℕ, suc, _+_, _*_}
-use mathlib.Core.Bool.{Bool, true, false, _&&_, _||_, not, cond}
+use Prim.Native.Nat.{ℕ, _+_, _*_}
+use mathlib.Core.Bool.{Bool, _&&_, _||_, not, cond}
 use mathlib.Core.List.{List, [], _∷_}
 use lib.Dec.{eqb}
 use Rattle.cascade.specs.Keys.{textured, active, activeCount, bump, maskOf, readsConstant, namesFactor, lastConstant, anyFactor, rowsOf}

@@ -2,7 +2,7 @@
 -- 01: "1 for an op without a text where the Rust calls `apply_op`, 2 for a resolved argument with selector 7 to 15, 4 for one with bits 0xc0, ..,
 -- summed. Arguments resolve where the Rust calls `resolve_arg`, discarded ones included."
 use Prim.Native.Nat.{ℕ, _+_}
-use mathlib.Core.Bool.{Bool, true, false, not, _&&_, _||_, cond}
+use mathlib.Core.Bool.{Bool, false, not, _&&_, _||_, cond}
 use mathlib.Core.List.{List, [], _∷_}
 use lib.Dec.{leb}
 use Rattle.combiners.specs.Codes.{selector}

@@ -8,7 +8,7 @@ use crate::keys::selects;
 use crate::keys::textured;
 use crate::keys::to_temp;
 ghost use mathlib.Core.Path.{_≡_};
-ghost use Rattle.combiners.specs.Combiners.{hasText, keepsFirst, keepsSecond, readsOwnTexel};
+ghost use Rattle.combiners.specs.Combiners.{hasText, keepsFirst, keepsSecond};
 ghost use Rattle.cascade.specs.Reading.{keeps, readsTempBy, readsTexelBy, alphaWritten, readsTemp, readsTexel, lined, luminance};
 
 pub fn has_text(op: u8) -> bool

@@ -1,5 +1,5 @@
 -- A name in 32 bytes: tests of its own bytes and of those behind it, one after the other.
-use mathlib.Core.Path.{_≡_, refl, sym, ap, _∙_}
+use mathlib.Core.Path.{_≡_, refl}
 use mathlib.Core.Bool.{Bool, true, false, not, _&&_, _||_, cond}
 use mathlib.Core.List.{List, [], _∷_}
 use Prim.Native.Nat.{ℕ, zero, suc, _≤_, _<_, _+_, _-_}
@@ -11,7 +11,7 @@ use borrow.Author.Tests.{lt-ltb, le-ltb}
 use lib.Dec.{eqb, ltb}
 use lib.ListN.{length, take, drop, getD, drop-of-length-le}
 use lib.Seq.{drop-cons}
-use Rattle.metal.specs.Results.{all, startsName, continuesName, isName}
+use Rattle.metal.specs.Results.{all, continuesName}
 
 -- one test where b holds, another where it does not
 pub chosen : (b x y : Bool) → ((b && x) || (not b && y)) ≡ cond b x y
@@ -25,7 +25,7 @@ placed n [] = true
 placed zero (c ∷ r) = eqb c 0 && placed zero r
 placed (suc n) (c ∷ r) = continuesName c && placed n r
 
-and-assoc : (a b c : Bool) → (a && (b && c)) ≡ ((a && b) && c)
+pub and-assoc : (a b c : Bool) → (a && (b && c)) ≡ ((a && b) && c)
 and-assoc true b c = refl
 and-assoc false b c = refl
 

@@ -2,8 +2,8 @@
 -- 01: "Selectors: 0 `in.color0`, 1 `current`, 2 `t` and the stage number (no texture: `float4(1.0)`), 3 `ps_c[0]`, 4 `in.color1`, 5 `temp`,
 -- 6 `ps_c[stage + 1]`, 7 to 15 `float4(1.0)`. Bit 0x20 appends `.aaaa`, then bit 0x10 wraps as `(1.0 - ..)`."
 use Prim.Native.Nat.{ℕ, _+_}
-use mathlib.Core.Bool.{Bool, true, false, cond}
-use mathlib.Core.List.{List, [], _∷_}
+use mathlib.Core.Bool.{Bool, cond}
+use mathlib.Core.List.{[], _∷_}
 use lib.Dec.{eqb}
 use Rattle.text.specs.Text.{Text, lit, _⊕_, pick, when, digit}
 use Rattle.text.specs.Format.{format, _≔_}

@@ -4,7 +4,7 @@ use text::put;
 use text::put_either;
 use text::put_numbered;
 ghost use Prim.Native.Nat.{_<_};
-ghost use Rattle.text.specs.Text.{raw, lit, pick, _⊕_};
+ghost use Rattle.text.specs.Text.{lit, pick, _⊕_};
 ghost use Rattle.text.specs.Buffer.{Wrote};
 ghost use Rattle.metal.specs.Lookups.{coordinateText, quotientText, uvText};
 

@@ -1,6 +1,6 @@
 -- Records that are read and written: what the definitions say in each case of the code, and that an accepted record is copied.
-use Prim.Native.Nat.{ℕ, _≤_, _<_}
-use mathlib.Core.Path.{_≡_, refl, sym, ap, _∙_}
+use Prim.Native.Nat.{ℕ, _≤_}
+use mathlib.Core.Path.{_≡_, refl, sym, _∙_}
 use mathlib.Core.Bool.{Bool, true, false, cond}
 use mathlib.Core.List.{List, _++_}
 use native.Mathlib.Omega.{arith}
@@ -20,7 +20,7 @@ use Rattle.records.specs.declared.ReadAnswer.the-variants as read
 use Rattle.records.specs.declared.WriteAnswer.{WriteAnswer}
 use Rattle.records.specs.declared.WriteAnswer.the-variants.{Wrote, Refused}
 use Rattle.records.proofs.Laws.{body-short}
-use Rattle.records.proofs.RoundTrips.{Bytes, read-rewrites, read-writes}
+use Rattle.records.proofs.RoundTrips.{Bytes, read-writes}
 use Rattle.parts.specs.Packed.{packedReading, packedWritten}
 use Rattle.parts.specs.Writing.{written, writtenBuffer}
 

@@ -1,5 +1,5 @@
 -- The held bytes stand for what is held: behind a record their values are those that applying the record to their values leaves.
-use Prim.Native.Nat.{ℕ, zero, suc, _+_, _≤_, _<_}
+use Prim.Native.Nat.{ℕ, zero, suc, _+_, _≤_}
 use mathlib.Core.Path.{_≡_, refl, sym, ap, _∙_}
 use mathlib.Core.Bool.{Bool, true, false, cond}
 use mathlib.Core.List.{List, [], _∷_, _++_, append-assoc, append-nil}
@@ -8,12 +8,11 @@ use borrow.Author.Tests.{eq-eqb, ne-eqb, ltb-false}
 use lib.Dec.{eqb, ltb}
 use lib.ListN.{length, take, drop, getD, set, length-drop}
 use lib.Seq.{sets, sets-eq, length-sets, length-take-le, take-add, take-set-le, drop-set-lt, drop-at, take-at, getD-take}
-use Rattle.cascade.specs.declared.Stage.{Stage}
 use Rattle.metal.specs.Results.{stageFlagsBad, variantFlagsBad, entryGood, answerOf}
 use Rattle.metal.specs.declared.Variant.{Variant}
 use Rattle.metal.specs.declared.Answer.{Answer}
 use Rattle.metal.specs.declared.Answer.the-variants as emission-answer
-use Rattle.held.specs.Applying.{holdsAll, holding, emissionAnswer, applyAs, applyRead, applyAnswer, applied}
+use Rattle.held.specs.Applying.{holdsAll, holding, emissionAnswer, applyAs, applyRead, applied}
 use Rattle.held.specs.Applying as values
 use Rattle.records.specs.Bodies.{kindByte, bodyLength, recordLength, stagesOf, keyOf, variantOf, entryOf, Shaped}
 use Rattle.records.specs.Reading.{refused, took, readBody, readAs, readNamed, readRecord}
@@ -27,10 +26,10 @@ use Rattle.records.specs.declared.ReadAnswer.{ReadAnswer}
 use Rattle.records.specs.declared.ReadAnswer.the-variants as read
 use Rattle.held.specs.declared.Held.{Held}
 use Rattle.held.specs.declared.ApplyAnswer.{ApplyAnswer}
-use Rattle.held.specs.declared.ApplyAnswer.the-variants.{Replaced, Text, Refused}
+use Rattle.held.specs.declared.ApplyAnswer.the-variants.{Text, Refused}
 use Rattle.records.proofs.RoundTrips.{Bytes, Rewrites, read-rewrites, written-reads}
-use Rattle.parts.specs.Parts.{readNumber, numberBy, partNumber, keyNumber, variantNumber, entryNumber, keyIn, variantIn, entryIn}
-use Rattle.service.specs.Applying.{keyPart, variantPart, entryPart, heldOf, answerTo, placeOf, replacedBytes, heldAfter}
+use Rattle.parts.specs.Parts.{numberBy, partNumber, keyNumber, variantNumber, entryNumber, keyIn, variantIn, entryIn}
+use Rattle.service.specs.Applying.{keyPart, variantPart, entryPart, heldOf, answerTo, placeOf, heldAfter}
 
 -- A record that was read has eight stages and a name of 32 bytes.
 

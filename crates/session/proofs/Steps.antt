@@ -7,7 +7,6 @@ use borrow.Author.Tests.{le-leb, lt-leb, eq-eqb, ne-eqb}
 use lib.ListN.{length, take, drop, length-drop}
 use lib.Seq.{take-all}
 use Rattle.held.specs.Applying.{applied}
-use Rattle.held.specs.declared.Held.{Held}
 use Rattle.held.specs.declared.ApplyAnswer.{ApplyAnswer}
 use Rattle.held.specs.declared.Applied.{Applied}
 use Rattle.session.specs.Program.{textRoom, endLine}

@@ -1,6 +1,6 @@
 -- Bounds on the length of a text: the longer of two alternatives, whichever the test picks.
 use Prim.Native.Nat.{ℕ, _+_, _≤_, max}
-use mathlib.Core.Bool.{Bool, true, false, cond}
+use mathlib.Core.Bool.{true, false}
 use mathlib.Core.List.{List, [], _∷_}
 use native.Mathlib.Omega.{arith}
 use lib.ListN.{length}

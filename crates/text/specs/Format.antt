@@ -1,7 +1,7 @@
 -- Templates: quoted texts with slots in braces, as the format strings of the Rust have them.
 -- `format "({a} * {b})" (("a" ≔ x) ∷ ("b" ≔ y) ∷ [])` is `lit "(" ⊕ x ⊕ lit " * " ⊕ y ⊕ lit ")"`.
 use Prim.Native.Nat.{ℕ}
-use Prim.Native.Char.{Char, code}
+use Prim.Native.Char.{code}
 use Prim.Native.String.{String, [] as []ˢ, _∷_ as _∷ˢ_}
 use mathlib.Core.Bool.{Bool, true, false, cond, _&&_, _||_}
 use mathlib.Core.List.{List, [], _∷_, _++_}

@@ -1,7 +1,7 @@
 //! Text written into a lent buffer.
 //!
-//! Each function writes at a place of the buffer and returns the place behind the last byte. Where the bytes do not fit it writes none of
-//! them and returns a place outside, from which nothing fits any more.
+//! Each function writes at a place of the buffer and returns the place behind the last byte. A piece that does not fit is not written, and
+//! the place returned is then outside the buffer, from where nothing fits any more.
 ghost use Prim.Native.Nat.{_<_, _≤_, _+_};
 ghost use mathlib.Core.Path.{_≡_};
 ghost use lib.ListN.{length};

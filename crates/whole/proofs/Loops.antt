@@ -1,13 +1,13 @@
 -- The loop over the active stages: what is still to be written, written, makes the whole.
-use Prim.Native.Nat.{ℕ, suc, _+_, _*_, _/_, _%_, _^_, _<_, _≤_}
+use Prim.Native.Nat.{ℕ, suc, _+_, _*_, _/_, _%_, _<_, _≤_}
 use mathlib.Core.Bool.{Bool, true, false, cond}
-use mathlib.Core.Path.{_≡_, refl, ap, sym, _∙_}
-use mathlib.Core.List.{List, [], _∷_}
+use mathlib.Core.Path.{_≡_, sym, _∙_}
+use mathlib.Core.List.{List, _∷_}
 use native.Mathlib.Omega.{arith}
 use native.Mathlib.Numerals.{add-one}
 use lib.Dec.{eqb}
-use lib.ListN.{length, drop, getD}
-use Rattle.text.specs.Text.{Text, when, _⊕_}
+use lib.ListN.{drop, getD}
+use Rattle.text.specs.Text.{when}
 use Rattle.text.specs.Buffer.{Wrote}
 use Rattle.text.proofs.Laws.{_⨾_, nothing}
 use Rattle.combiners.specs.Codes.{bit}

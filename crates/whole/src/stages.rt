@@ -18,7 +18,7 @@ use metal::Variant;
 use variants::bits::bit;
 use variants::bits::lod_bias;
 use variants::kinds::lookup_of;
-ghost use Prim.Native.Nat.{_<_, _≤_, suc};
+ghost use Prim.Native.Nat.{_<_, suc};
 ghost use mathlib.Core.Path.{_≡_};
 ghost use mathlib.Core.Bool.{cond};
 ghost use Rattle.text.specs.Text.{when};

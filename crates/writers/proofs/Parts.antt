@@ -1,8 +1,8 @@
 -- Parts of the text, put together as they are written: what is fixed in one piece, what a test chooses in one of two.
 use Prim.Native.Nat.{ℕ}
 use mathlib.Core.Bool.{Bool, true, false}
-use mathlib.Core.Path.{_≡_, refl, ap, sym, _∙_}
-use mathlib.Core.List.{List, _++_, append-assoc}
+use mathlib.Core.Path.{_≡_, refl, ap, _∙_}
+use mathlib.Core.List.{List, append-assoc}
 use Rattle.text.specs.Text.{Text, bytes, raw, lit, none, pick, flat, _⊕_}
 use Rattle.text.specs.Marks.{numbered}
 use Rattle.text.specs.Buffer.{Wrote}

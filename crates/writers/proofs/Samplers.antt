@@ -1,8 +1,8 @@
 -- The loop over the active stages' parameters: what is still to be written, written, makes the whole.
-use Prim.Native.Nat.{ℕ, _+_, _^_, _<_, _≤_}
+use Prim.Native.Nat.{ℕ, _+_, _<_, _≤_}
 use mathlib.Core.List.{List}
 use native.Mathlib.Numerals.{add-one}
-use lib.ListN.{length, drop, getD}
+use lib.ListN.{drop, getD}
 use Rattle.text.specs.Text.{when, _⊕_}
 use Rattle.text.specs.Buffer.{Wrote}
 use Rattle.text.proofs.Laws.{_⨾_, nothing}

@@ -6,7 +6,7 @@ use variants::bits::flat_shade;
 use variants::bits::sample_mask;
 use variants::bits::srgb_write;
 ghost use Rattle.text.specs.Buffer.{Wrote};
-ghost use Rattle.metal.specs.Whole.{varyingsText, srgbHelperText, fragmentText, frontText};
+ghost use Rattle.metal.specs.Whole.{varyingsText, srgbHelperText, frontText};
 
 fn put_varyings(out: &mut [u8], at: usize, flat: bool) -> usize
     ensures { λ r. ⌜ Wrote (now (out .entry)) at (now (out .exit)) r (varyingsText flat) ⌝ }

@@ -1,5 +1,5 @@
 use mathlib.Core.Path.{_≡_, refl, sym, ap, _∙_}
-use mathlib.Core.Bool.{Bool, true, false, _&&_, _||_}
+use mathlib.Core.Bool.{Bool, true, false, _&&_}
 use mathlib.Core.List.{List, [], _∷_}
 use Prim.Native.Nat.{ℕ, zero, suc, _≤_, _<_, _+_, _-_}
 use native.Mathlib.Omega.{arith}
@@ -7,7 +7,7 @@ use borrow.Author.Tests.{le-leb, lt-leb, not-true, not-false}
 use lib.ListN.{length, take, drop, getD, length-map}
 use Rattle.metal.specs.Results.{all, startsName, continuesName, isName, entryGood}
 use Rattle.metal.specs.declared.Entry.{Entry}
-use Rattle.checks.proofs.Every.{placed, placed-parts, placed-next, placed-over}
+use Rattle.checks.proofs.Every.{and-assoc, placed, placed-parts, placed-next, placed-over}
 use Rattle.checks.proofs.entry_good.Statement.{statement}
 use Rattle.checks.proofs.entry_good.Tie as tie
 
@@ -45,10 +45,6 @@ and-true : (b : Bool) → (b && true) ≡ b
 and-true true = refl
 and-true false = refl
 
-and-assoc : (a b c : Bool) → ((a && b) && c) ≡ (a && (b && c))
-and-assoc true b c = refl
-and-assoc false b c = refl
-
 abbrev Inv-loop : tie.InvT-loop
 Inv-loop entry name good₀ i₀ good i =
     (i ≤ 32) × (length name ≡ 32) × ((good && placed (entry .len - i) (drop i name)) ≡ placed (entry .len) name)
@@ -83,7 +79,7 @@ loop-again c =
     let l = c .before .before .before .loop in
     let e = c .before .before .before .before .before .before .before .before .before .before .before .args .entry in
     let n : placed (e .len - l .i) (drop (l .i) (e .name)) ≡ (c .stands .result && placed (e .len - (l .i + 1)) (drop (l .i + 1) (e .name))) = placed-next (e .len) (l .i) (e .name) (omega (arith, l .inv .1)) ∙ rw (c .stands .ensures) in
-    (omega arith, l .inv .1, and-assoc (l .good) (c .stands .result) _ ∙ rw (← n) (l .inv .2))
+    (omega arith, l .inv .1, sym (and-assoc (l .good) (c .stands .result) (placed (e .len - (l .i + 1)) (drop (l .i + 1) (e .name)))) ∙ rw (← n) (l .inv .2))
 
 returns-4 : tie.Need-returns-4 Inv-loop μ-loop
 returns-4 c =

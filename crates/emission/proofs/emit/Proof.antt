@@ -10,7 +10,6 @@ use Rattle.metal.specs.declared.Answer.the-variants.{Text}
 use Rattle.emission.proofs.Answers.{survey-warning, entry-short, laid-fits, laid-over, laid-length, accepted, demanded}
 use Rattle.emission.proofs.emit.Statement.{statement}
 use Rattle.emission.proofs.emit.Tie as tie
-use Rattle.emission.proofs.emit.Lts as lts
 
 returns : tie.Need-returns
 unfolding answerOf

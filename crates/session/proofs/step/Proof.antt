@@ -1,13 +1,12 @@
 -- `step` answers, prints and leaves what the definition says: one case for each way out.
 use mathlib.Core.Bool.{true, false}
-use mathlib.Core.Path.{_≡_, refl, sym, ap, _∙_}
-use Prim.Native.Nat.{ℕ, _≤_, _<_, _^_}
+use mathlib.Core.Path.{refl, sym, ap, _∙_}
+use Prim.Native.Nat.{ℕ, _<_, _^_}
 use native.Mathlib.Omega.{arith}
 use borrow.Author.Needs.{needs}
 use lib.ListN.{length}
 use Rattle.held.specs.Applying.{textAfter}
 use Rattle.held.specs.declared.ApplyAnswer.{ApplyAnswer}
-use Rattle.session.specs.Program.{textRoom}
 use Rattle.session.specs.Steps.{answeredStep, stepped}
 use Rattle.session.proofs.LineLaws.{emit-line, end-line, refused-line}
 use Rattle.session.proofs.Steps.{a-text, answered, applied-rest, as-step, behind-input, no-text, on-fits, taken, too-many, used-up}

@@ -1,4 +1,3 @@
-use mathlib.Core.Path.{refl}
 use Rattle.text.proofs.Laws.{unmarked, same, keeps}
 use Rattle.text.proofs.put.Statement.{statement}
 use Rattle.text.proofs.put.Tie as tie

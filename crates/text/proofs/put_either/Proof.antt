@@ -1,5 +1,4 @@
-use Rattle.text.proofs.Laws.{texts, _⨾_, keeps}
-use native.Mathlib.Omega.{arith}
+use Rattle.text.proofs.Laws.{texts}
 use borrow.Author.Needs.{needs}
 use Rattle.text.proofs.put_either.Statement.{statement}
 use Rattle.text.proofs.put_either.Tie as tie

@@ -1,5 +1,4 @@
 use Rattle.text.proofs.Laws.{texts, pick-false, nothing}
-use native.Mathlib.Omega.{arith}
 use borrow.Author.Needs.{needs}
 use Rattle.text.proofs.put_when.Statement.{statement}
 use Rattle.text.proofs.put_when.Tie as tie

@@ -1,4 +1,3 @@
-use native.Mathlib.Omega.{arith}
 use borrow.Author.Needs.{needs}
 use Rattle.cascade.proofs.Guards.{and-false}
 use Rattle.cascade.proofs.PlainStages.{kept-constant}

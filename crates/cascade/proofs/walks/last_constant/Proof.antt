@@ -1,4 +1,4 @@
-use mathlib.Core.Path.{_≡_, sym, _∙_}
+use mathlib.Core.Path.{sym, _∙_}
 use borrow.Author.Tests.{ne-eqb}
 use borrow.Author.Needs.{needs}
 use Rattle.cascade.proofs.walks.last_constant.Statement.{statement}

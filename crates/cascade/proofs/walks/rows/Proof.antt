@@ -1,4 +1,3 @@
-use mathlib.Core.Path.{_∙_}
 use borrow.Author.Tests.{ne-eqb}
 use Rattle.cascade.proofs.walks.rows.Statement.{statement}
 use Rattle.cascade.proofs.walks.rows.Tie as tie

@@ -1,5 +1,3 @@
-use Rattle.text.proofs.Laws.{texts, _⨾_, keeps}
-use native.Mathlib.Omega.{arith}
 use Rattle.combiners.proofs.arguments.arg_of.Statement.{statement}
 use Rattle.combiners.proofs.arguments.arg_of.Tie as tie
 

@@ -1,6 +1,5 @@
 use mathlib.Core.Path.{refl}
-use native.Mathlib.Omega.{arith}
-use Rattle.text.proofs.Laws.{_⨾_, keeps, same}
+use Rattle.text.proofs.Laws.{_⨾_, keeps}
 use Rattle.text.proofs.Laws.{pick-true, pick-false}
 use Rattle.combiners.specs.Arguments.{argText}
 use Rattle.combiners.proofs.arguments.put_arg.Statement.{statement}

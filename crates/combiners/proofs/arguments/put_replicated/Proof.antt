@@ -1,6 +1,5 @@
 use mathlib.Core.Path.{refl}
-use native.Mathlib.Omega.{arith}
-use Rattle.text.proofs.Laws.{_⨾_, keeps, same}
+use Rattle.text.proofs.Laws.{_⨾_, keeps}
 use Rattle.combiners.specs.Arguments.{replicated}
 use Rattle.combiners.proofs.arguments.put_replicated.Statement.{statement}
 use Rattle.combiners.proofs.arguments.put_replicated.Tie as tie

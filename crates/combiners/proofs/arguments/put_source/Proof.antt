@@ -1,6 +1,6 @@
 use mathlib.Core.Path.{refl}
 use native.Mathlib.Omega.{arith}
-use Rattle.text.proofs.Laws.{_⨾_, keeps, same}
+use Rattle.text.proofs.Laws.{keeps, same}
 use Rattle.combiners.specs.Arguments.{sourceText, texelName, constantRow}
 use Rattle.combiners.proofs.arguments.put_source.Statement.{statement}
 use Rattle.combiners.proofs.arguments.put_source.Tie as tie

@@ -1,5 +1,4 @@
-use Rattle.text.proofs.Laws.{texts, _⨾_, keeps}
-use native.Mathlib.Omega.{arith}
+use Rattle.text.proofs.Laws.{texts}
 use Rattle.combiners.proofs.ops.op_of.Statement.{statement}
 use Rattle.combiners.proofs.ops.op_of.Tie as tie
 

@@ -1,5 +1,4 @@
 use mathlib.Core.Path.{refl}
-use native.Mathlib.Omega.{arith}
 use Rattle.text.proofs.Laws.{_⨾_, keeps, same}
 use Rattle.expressions.proofs.Lines.{from-colour}
 use Rattle.expressions.proofs.line.put_from_colour.Statement.{statement}

@@ -1,5 +1,3 @@
-use Rattle.text.proofs.Laws.{texts, _⨾_, keeps}
-use native.Mathlib.Omega.{arith}
 use borrow.Author.Needs.{needs}
 use Rattle.cascade.specs.Stages.{lineText}
 use Rattle.expressions.proofs.line.put_line.Statement.{statement}

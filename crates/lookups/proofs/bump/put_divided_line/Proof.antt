@@ -1,6 +1,6 @@
 use mathlib.Core.Path.{refl}
 use native.Mathlib.Omega.{arith}
-use Rattle.text.proofs.Laws.{_⨾_, keeps, same}
+use Rattle.text.proofs.Laws.{keeps, same}
 use Rattle.lookups.proofs.Lines.{divided}
 use Rattle.lookups.proofs.bump.put_divided_line.Statement.{statement}
 use Rattle.lookups.proofs.bump.put_divided_line.Tie as tie

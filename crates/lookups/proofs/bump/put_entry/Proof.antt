@@ -1,6 +1,5 @@
-use mathlib.Core.Path.{refl}
 use native.Mathlib.Omega.{arith}
-use Rattle.text.proofs.Laws.{_⨾_, keeps, same}
+use Rattle.text.proofs.Laws.{_⨾_, keeps}
 use Rattle.lookups.proofs.bump.put_entry.Statement.{statement}
 use Rattle.lookups.proofs.bump.put_entry.Tie as tie
 

@@ -1,5 +1,4 @@
 use Rattle.text.proofs.Laws.{pick-true, pick-false, nothing}
-use native.Mathlib.Omega.{arith}
 use borrow.Author.Needs.{needs}
 use Rattle.lookups.proofs.bump.put_luminance.Statement.{statement}
 use Rattle.lookups.proofs.bump.put_luminance.Tie as tie

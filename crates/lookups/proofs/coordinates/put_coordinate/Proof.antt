@@ -1,6 +1,6 @@
 use mathlib.Core.Path.{refl}
 use native.Mathlib.Omega.{arith}
-use Rattle.text.proofs.Laws.{_⨾_, keeps, same}
+use Rattle.text.proofs.Laws.{keeps, same}
 use Rattle.metal.specs.Lookups.{coordinateText}
 use Rattle.lookups.proofs.coordinates.put_coordinate.Statement.{statement}
 use Rattle.lookups.proofs.coordinates.put_coordinate.Tie as tie

@@ -1,5 +1,4 @@
 use mathlib.Core.Path.{refl}
-use native.Mathlib.Omega.{arith}
 use Rattle.text.proofs.Laws.{_⨾_, keeps, same}
 use Rattle.lookups.proofs.Laws.{dotted}
 use Rattle.lookups.proofs.coordinates.put_swizzled.Statement.{statement}

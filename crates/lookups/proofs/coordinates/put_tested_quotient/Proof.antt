@@ -1,6 +1,5 @@
 use mathlib.Core.Path.{refl}
-use native.Mathlib.Omega.{arith}
-use Rattle.text.proofs.Laws.{_⨾_, keeps, same}
+use Rattle.text.proofs.Laws.{_⨾_, keeps}
 use Rattle.metal.specs.Lookups.{quotientText}
 use Rattle.lookups.proofs.Laws.{regroup}
 use Rattle.lookups.proofs.coordinates.put_tested_quotient.Statement.{statement}

@@ -1,5 +1,4 @@
 use mathlib.Core.Path.{refl}
-use native.Mathlib.Omega.{arith}
 use Rattle.text.proofs.Laws.{_⨾_, keeps, same}
 use Rattle.text.proofs.Laws.{pick-true, pick-false}
 use Rattle.metal.specs.Lookups.{uvText}

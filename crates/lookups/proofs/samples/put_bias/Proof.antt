@@ -1,6 +1,6 @@
 use mathlib.Core.Path.{refl}
 use native.Mathlib.Omega.{arith}
-use Rattle.text.proofs.Laws.{_⨾_, keeps, same}
+use Rattle.text.proofs.Laws.{keeps, same}
 use Rattle.text.proofs.Laws.{pick-true, pick-false, nothing}
 use Rattle.lookups.proofs.Lines.{biased}
 use Rattle.lookups.proofs.samples.put_bias.Statement.{statement}

@@ -1,6 +1,6 @@
 use mathlib.Core.Path.{refl}
 use native.Mathlib.Omega.{arith}
-use Rattle.text.proofs.Laws.{_⨾_, keeps, same}
+use Rattle.text.proofs.Laws.{keeps}
 use mathlib.Core.Bool.{Bool, true, false}
 use Rattle.metal.specs.Lookups.{levelText}
 use Rattle.text.proofs.Laws.{by-test}

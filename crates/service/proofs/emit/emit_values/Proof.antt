@@ -1,6 +1,6 @@
 -- `emit_values` packs what emission answers: a text's length has 16 bits.
-use mathlib.Core.Path.{_≡_, sym, _∙_}
-use lib.ListN.{length, length-map}
+use mathlib.Core.Path.{sym, _∙_}
+use lib.ListN.{length-map}
 use Rattle.service.specs.Packed.{packed}
 use Rattle.service.proofs.Emitting.{text-short, values-answered}
 use Rattle.service.proofs.emit.emit_values.Statement.{statement}

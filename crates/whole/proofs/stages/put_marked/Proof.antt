@@ -1,6 +1,5 @@
 use native.Mathlib.Numerals.{add-one}
 use Rattle.text.proofs.Laws.{pick-true, pick-false, nothing}
-use native.Mathlib.Omega.{arith}
 use borrow.Author.Needs.{needs}
 use Rattle.whole.proofs.stages.put_marked.Statement.{statement}
 use Rattle.whole.proofs.stages.put_marked.Tie as tie

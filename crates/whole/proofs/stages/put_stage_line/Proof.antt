@@ -1,7 +1,6 @@
 use mathlib.Core.Path.{sym, _∙_}
 use Rattle.text.proofs.Laws.{pick-true, pick-false, nothing}
 use Rattle.metal.specs.Whole.{stageLine}
-use native.Mathlib.Omega.{arith}
 use borrow.Author.Needs.{needs}
 use Rattle.whole.proofs.stages.put_stage_line.Statement.{statement}
 use Rattle.whole.proofs.stages.put_stage_line.Tie as tie

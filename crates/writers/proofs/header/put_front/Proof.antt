@@ -1,6 +1,5 @@
 use mathlib.Core.Path.{refl}
-use native.Mathlib.Omega.{arith}
-use Rattle.text.proofs.Laws.{_⨾_, keeps, same}
+use Rattle.text.proofs.Laws.{_⨾_, keeps}
 use Rattle.metal.specs.Whole.{fragmentText, frontText}
 use Rattle.writers.proofs.header.put_front.Statement.{statement}
 use Rattle.writers.proofs.header.put_front.Tie as tie

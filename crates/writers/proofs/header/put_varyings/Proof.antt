@@ -1,5 +1,4 @@
 use mathlib.Core.Path.{refl}
-use native.Mathlib.Omega.{arith}
 use Rattle.text.proofs.Laws.{_⨾_, keeps, same}
 use Rattle.writers.proofs.Parts.{varyings}
 use Rattle.writers.proofs.header.put_varyings.Statement.{statement}

@@ -1,6 +1,5 @@
 use mathlib.Core.Path.{refl}
-use native.Mathlib.Omega.{arith}
-use Rattle.text.proofs.Laws.{_⨾_, keeps, same}
+use Rattle.text.proofs.Laws.{keeps, same}
 use borrow.Author.Tests.{ne-eqb}
 use Rattle.text.proofs.Laws.{pick-false}
 use Rattle.metal.specs.Output.{fogFactorText}

@@ -1,6 +1,4 @@
-use mathlib.Core.Path.{refl}
-use native.Mathlib.Omega.{arith}
-use Rattle.text.proofs.Laws.{_⨾_, keeps, same}
+use Rattle.text.proofs.Laws.{_⨾_, keeps}
 use Rattle.metal.specs.Output.{outputText}
 use Rattle.writers.proofs.Parts.{regroup}
 use Rattle.writers.proofs.output.put_output.Statement.{statement}

@@ -1,6 +1,5 @@
 use mathlib.Core.Path.{refl}
-use native.Mathlib.Omega.{arith}
-use Rattle.text.proofs.Laws.{_⨾_, keeps, same}
+use Rattle.text.proofs.Laws.{keeps, same}
 use Rattle.writers.proofs.Parts.{highlit}
 use Rattle.writers.proofs.output.put_specular.Statement.{statement}
 use Rattle.writers.proofs.output.put_specular.Tie as tie

@@ -1,6 +1,5 @@
 use Rattle.text.proofs.Laws.{_⨾_, pick-true, pick-false, nothing}
 use mathlib.Core.Path.{refl, sym, _∙_}
-use native.Mathlib.Omega.{arith}
 use borrow.Author.Needs.{needs}
 use Rattle.metal.specs.Output.{testText}
 use Rattle.writers.proofs.output.put_test.Statement.{statement}

@@ -1,6 +1,5 @@
 use mathlib.Core.Path.{refl}
-use native.Mathlib.Omega.{arith}
-use Rattle.text.proofs.Laws.{_⨾_, keeps, same}
+use Rattle.text.proofs.Laws.{keeps, same}
 use Rattle.writers.proofs.Parts.{declared}
 use Rattle.writers.proofs.signature.put_locals.Statement.{statement}
 use Rattle.writers.proofs.signature.put_locals.Tie as tie

@@ -1,6 +1,5 @@
 use mathlib.Core.Path.{refl}
-use native.Mathlib.Omega.{arith}
-use Rattle.text.proofs.Laws.{_⨾_, keeps, same}
+use Rattle.text.proofs.Laws.{_⨾_, keeps}
 use mathlib.Core.Path.{ap}
 use Rattle.cascade.specs.Survey.{surveyOf}
 use Rattle.cascade.specs.declared.Survey.{Survey}

@@ -1,6 +1,5 @@
 use mathlib.Core.Path.{refl}
-use native.Mathlib.Omega.{arith}
-use Rattle.text.proofs.Laws.{_⨾_, keeps, same}
+use Rattle.text.proofs.Laws.{keeps}
 use mathlib.Core.Bool.{true, false}
 use Rattle.text.proofs.Laws.{nothing}
 use Rattle.text.proofs.Laws.{by-test}

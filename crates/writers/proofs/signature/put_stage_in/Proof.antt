@@ -1,6 +1,5 @@
 use mathlib.Core.Path.{refl}
-use native.Mathlib.Omega.{arith}
-use Rattle.text.proofs.Laws.{_⨾_, keeps, same}
+use Rattle.text.proofs.Laws.{keeps, same}
 use Rattle.writers.proofs.Parts.{begins}
 use Rattle.writers.proofs.signature.put_stage_in.Statement.{statement}
 use Rattle.writers.proofs.signature.put_stage_in.Tie as tie

@@ -1,6 +1,6 @@
 use mathlib.Core.Path.{refl}
 use native.Mathlib.Omega.{arith}
-use Rattle.text.proofs.Laws.{_⨾_, keeps, same}
+use Rattle.text.proofs.Laws.{keeps, same}
 use Rattle.writers.proofs.signature.put_texture.Statement.{statement}
 use Rattle.writers.proofs.signature.put_texture.Tie as tie
 
