@@ -1,2 +1,2 @@
-pub mod Blending
+pub mod Table
 pub mod Lines

@@ -1,27 +1,40 @@
-//! The text of an expression: its operation's template, with its arguments in it.
-use crate::blends::put_blend;
-use crate::blends::put_blend_texture_alpha;
-use crate::blends::put_blend_texture_alpha_pm;
-use crate::mixed::put_modulate_alpha_add_color;
-use crate::mixed::put_modulate_color_add_alpha;
-use crate::mixed::put_modulate_inv_alpha_add_color;
-use crate::mixed::put_modulate_inv_color_add_alpha;
-use crate::products::put_dot_product3;
-use crate::products::put_modulate;
-use crate::products::put_modulate2x;
-use crate::products::put_modulate4x;
-use crate::sums::put_add;
-use crate::sums::put_add_signed;
-use crate::sums::put_add_signed2x;
-use crate::sums::put_add_smooth;
-use crate::sums::put_subtract;
+//! The text of an expression: its operation's form, with its arguments in it.
+use crate::forms::Close;
+use crate::forms::Form;
+use crate::forms::Middle;
+use crate::forms::Open;
+use crate::forms::form_of;
+use crate::words::put_close;
+use crate::words::put_middle;
+use crate::words::put_open;
+use combiners::Arg;
 use combiners::Expression;
-use combiners::Op;
-use combiners::Source;
 use combiners::arguments::put_arg;
 ghost use Prim.Native.Nat.{_<_};
 ghost use Rattle.text.specs.Buffer.{Wrote};
+ghost use Rattle.combiners.specs.Arguments.{argText};
 ghost use Rattle.combiners.specs.Combiners.{expressionText};
+ghost use Rattle.expressions.specs.Forms.{formText};
+
+fn put_both(
+    out: &mut [u8],
+    at: usize,
+    open: Open,
+    middle: Middle,
+    close: Close,
+    x: Arg,
+    y: Arg,
+    stage: u8,
+) -> usize
+    requires { ⌜ stage < 8 ⌝ }
+    ensures { λ r. ⌜ Wrote (now (out .entry)) at (now (out .exit)) r (formText stage (argText stage x) (argText stage y) (Form.Both «open» middle close)) ⌝ }
+{
+    let mut p = put_open(out, at, open);
+    p = put_arg(out, p, x, stage);
+    p = put_middle(out, p, middle, x, stage);
+    p = put_arg(out, p, y, stage);
+    put_close(out, p, close, x, stage)
+}
 
 pub(crate) fn put_expression(
     out: &mut [u8],
@@ -36,27 +49,10 @@ pub(crate) fn put_expression(
     let x = e.arg1;
     let y = e.arg2;
     let op = e.op;
-    match op {
-        Op::SelectArg1 => put_arg(out, at, x, stage),
-        Op::SelectArg2 => put_arg(out, at, y, stage),
-        Op::Modulate => put_modulate(out, at, x, y, stage),
-        Op::Modulate2X => put_modulate2x(out, at, x, y, stage),
-        Op::Modulate4X => put_modulate4x(out, at, x, y, stage),
-        Op::Add => put_add(out, at, x, y, stage),
-        Op::AddSigned => put_add_signed(out, at, x, y, stage),
-        Op::AddSigned2X => put_add_signed2x(out, at, x, y, stage),
-        Op::Subtract => put_subtract(out, at, x, y, stage),
-        Op::AddSmooth => put_add_smooth(out, at, x, y, stage),
-        Op::BlendDiffuseAlpha => put_blend(out, at, x, y, Source::Diffuse, stage),
-        Op::BlendTextureAlpha => put_blend_texture_alpha(out, at, x, y, stage, textured),
-        Op::BlendFactorAlpha => put_blend(out, at, x, y, Source::Factor, stage),
-        Op::BlendTextureAlphaPM => put_blend_texture_alpha_pm(out, at, x, y, stage, textured),
-        Op::BlendCurrentAlpha => put_blend(out, at, x, y, Source::Current, stage),
-        Op::ModulateAlphaAddColor => put_modulate_alpha_add_color(out, at, x, y, stage),
-        Op::ModulateColorAddAlpha => put_modulate_color_add_alpha(out, at, x, y, stage),
-        Op::ModulateInvAlphaAddColor => put_modulate_inv_alpha_add_color(out, at, x, y, stage),
-        Op::ModulateInvColorAddAlpha => put_modulate_inv_color_add_alpha(out, at, x, y, stage),
-        Op::DotProduct3 => put_dot_product3(out, at, x, y, stage),
-        Op::Other => put_arg(out, at, x, stage),
+    let form = form_of(op, textured);
+    match form {
+        Form::First => put_arg(out, at, x, stage),
+        Form::Second => put_arg(out, at, y, stage),
+        Form::Both(open, middle, close) => { put_both(out, at, open, middle, close, x, y, stage) }
     }
 }

@@ -1,7 +1,5 @@
 //! The writers of expressions and of the lines that hold them.
-mod blends;
 mod combine;
+mod forms;
 pub mod line;
-mod mixed;
-mod products;
-mod sums;
+mod words;

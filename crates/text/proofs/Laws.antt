@@ -1,8 +1,8 @@
 -- The laws of writing: one text behind another is the two joined; a text that fits is written whole; which of two texts; a text's length.
 use Prim.Native.Nat.{ℕ, zero, suc, _+_, _<_, _≤_}
-use mathlib.Core.Bool.{Bool, true, false}
+use mathlib.Core.Bool.{Bool, true, false, cond}
 use mathlib.Core.Path.{_≡_, refl, ap, sym, subst, _∙_}
-use mathlib.Core.List.{List, [], _∷_, _++_}
+use mathlib.Core.List.{List, [], _∷_, _++_, append-assoc, append-nil}
 use mathlib.Core.Logic.{by-cases}
 use native.Mathlib.Omega.{arith}
 use native.Mathlib.Nat.{add-zero, zero-add}
@@ -86,6 +86,21 @@ whole {l} {t = t} w h = w .fits (omega arith) .0 ∙ sets-eq (flat t) l 0 (omega
 pub same : {l l′ : List ℕ} {a a′ : ℕ} {s t : Text} → flat s ≡ flat t → Wrote l a l′ a′ s → Wrote l a l′ a′ t
 same e w = record { kept = w .kept; fits = rw e at (w .fits); over = rw e at (w .over) }
 
+-- the bytes of a text before others, so that texts put together alike compute alike
+abbrev pub onto : Text → List ℕ → List ℕ
+onto (raw x) r = x ++ r
+onto (s ⊕ t) r = onto s (onto t r)
+onto (pick b s t) r = cond b (onto s r) (onto t r)
+
+onto-flat : (t : Text) (r : List ℕ) → onto t r ≡ flat t ++ r
+onto-flat (raw x) r = refl
+onto-flat (s ⊕ t) r = onto-flat s (onto t r) ∙ rw (onto-flat t r) (sym (append-assoc (flat s) (flat t) r))
+onto-flat (pick true s t) r = onto-flat s r
+onto-flat (pick false s t) r = onto-flat t r
+
+pub alike : {l l′ : List ℕ} {a a′ : ℕ} {s t : Text} → ((r : List ℕ) → onto s r ≡ onto t r) → Wrote l a l′ a′ s → Wrote l a l′ a′ t
+alike {s = s} {t} e w = same (sym (append-nil (flat s)) ∙ sym (onto-flat s []) ∙ e [] ∙ onto-flat t [] ∙ append-nil (flat t)) w
+
 -- which of two texts
 pub pick-true : {l l′ : List ℕ} {a a′ : ℕ} {b : Bool} {s t : Text} → b ≡ true → Wrote l a l′ a′ s → Wrote l a l′ a′ (pick b s t)
 pick-true e w = rw e (record { kept = w .kept; fits = w .fits; over = w .over })
@@ -97,9 +112,13 @@ pick-false e w = rw e (record { kept = w .kept; fits = w .fits; over = w .over }
 pub by-test : {l l′ : List ℕ} {a a′ : ℕ} {s : Text} (t : Bool → Text) (b c : Bool) → b ≡ c → flat s ≡ flat (t c) → Wrote l a l′ a′ s → Wrote l a l′ a′ (t b)
 by-test {l} {l′} {a} {a′} t b c e f w = subst (λ (b : Bool). Wrote l a l′ a′ (t b)) (sym e) (same f w)
 
+-- a text by cases, of a value that is known
+pub case : {A : Type 0} (t : A → Text) (x y : A) (l l′ : List ℕ) (a a′ : ℕ) → x ≡ y → Wrote l a l′ a′ (t y) → Wrote l a l′ a′ (t x)
+case t x y l l′ a a′ e w = rw e w
+
 -- a test of a number that is known
 pub eqb-at : (x m n : ℕ) (b : Bool) → x ≡ m → eqb m n ≡ b → eqb x n ≡ b
 eqb-at x m n b e f = rw e f
 
 -- what `search` is handed at the return of a function that writes text
-pub ruleset texts = (_⨾_, pick-true, pick-false, eqb-at, ne-eqb, le-leb, lt-leb, le-ltb, lt-ltb)
+pub ruleset texts = (_⨾_, nothing, pick-true, pick-false, eqb-at, ne-eqb, le-leb, lt-leb, le-ltb, lt-ltb)

@@ -6,7 +6,7 @@ use mathlib.Core.List.{List, append-assoc}
 use Rattle.text.specs.Text.{Text, bytes, raw, lit, none, pick, flat, _⊕_}
 use Rattle.text.specs.Marks.{numbered}
 use Rattle.text.specs.Buffer.{Wrote}
-use Rattle.text.proofs.Laws.{same}
+use Rattle.text.proofs.Laws.{same, _⨾_}
 use Rattle.metal.specs.Lookups.{textureName, samplerName, typeText, textureTypeOf}
 use Rattle.metal.specs.Output.{specularText}
 use Rattle.metal.specs.Whole.{varyingsText, srgbHelperText, stageInText, textureParameter, samplerParameter, spriteLine, spriteText, localsText}
@@ -16,6 +16,14 @@ use Rattle.metal.specs.declared.TextureType.{TextureType}
 -- two pieces written in one, and a text behind them
 pub regroup : {l l′ : List ℕ} {a a′ : ℕ} {s t u : Text} → Wrote l a l′ a′ ((s ⊕ t) ⊕ u) → Wrote l a l′ a′ (s ⊕ t ⊕ u)
 regroup {s = s} {t} {u} w = same (append-assoc (flat s) (flat t) (flat u)) w
+
+-- a text of what a function answered, and a text behind it
+pub answered : {A : Type 0} (t : A → Text) (x y : A) (u : Text) (l l₁ l₂ : List ℕ) (a a₁ a₂ : ℕ) → y ≡ x → Wrote l a l₁ a₁ (t y) → Wrote l₁ a₁ l₂ a₂ u → Wrote l a l₂ a₂ (t x ⊕ u)
+answered t x y u l l₁ l₂ a a₁ a₂ e w v = rw (← e) (w ⨾ v)
+
+-- a text by a test whose answer is known
+pub picked : {l l′ : List ℕ} {a a′ : ℕ} {b c : Bool} {s t : Text} → b ≡ c → Wrote l a l′ a′ (pick b s t) → Wrote l a l′ a′ (pick c s t)
+picked e w = rw e at w
 
 pub varyings : (b : Bool)
     → flat (raw (flat

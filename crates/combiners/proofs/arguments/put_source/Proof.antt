@@ -1,6 +1,6 @@
 use mathlib.Core.Path.{refl}
 use native.Mathlib.Omega.{arith}
-use Rattle.text.proofs.Laws.{keeps, same}
+use Rattle.text.proofs.Laws.{same}
 use Rattle.combiners.specs.Arguments.{sourceText, texelName, constantRow}
 use Rattle.combiners.proofs.arguments.put_source.Statement.{statement}
 use Rattle.combiners.proofs.arguments.put_source.Tie as tie
@@ -35,19 +35,19 @@ put-source-spec =
     (λ c. c .match .keys8)
     (λ c. refl)
     (λ c κs. tt)
-    (λ c. keeps (c .before .before .put .ensures))
+    (λ c. cc)
     (λ c. rw (c .before .before .before .before .before .enum-told .given .1) (c .before .before .put .ensures))
-    (λ c. keeps (c .before .before .put2 .ensures))
+    (λ c. cc)
     (λ c. rw (c .before .before .before .before .before .enum-told2 .given .1) (c .before .before .put2 .ensures))
-    (λ c. keeps (c .before .before .put-numbered .ensures))
+    (λ c. cc)
     (λ c. rw (c .before .before .before .before .before .enum-told3 .given .1) (same refl (c .before .before .put-numbered .ensures)))
-    (λ c. keeps (c .before .before .put3 .ensures))
+    (λ c. cc)
     (λ c. rw (c .before .before .before .before .before .enum-told4 .given .1) (c .before .before .put3 .ensures))
-    (λ c. keeps (c .before .before .put4 .ensures))
+    (λ c. cc)
     (λ c. rw (c .before .before .before .before .before .enum-told5 .given .1) (c .before .before .put4 .ensures))
-    (λ c. keeps (c .before .before .put5 .ensures))
+    (λ c. cc)
     (λ c. rw (c .before .before .before .before .before .enum-told6 .given .1) (c .before .before .put5 .ensures))
-    (λ c. keeps (c .before .before .put-numbered2 .ensures))
+    (λ c. cc)
     (λ c. rw (c .before .before .before .before .before .enum-told7 .given .1) (same refl (c .before .before .put-numbered2 .ensures)))
-    (λ c. keeps (c .before .before .put6 .ensures))
+    (λ c. cc)
     (λ c. rw (c .before .before .before .before .before .enum-told8 .given .1) (c .before .before .put6 .ensures)))

@@ -1,21 +1,29 @@
-use mathlib.Core.Path.{refl}
-use Rattle.text.proofs.Laws.{_⨾_, keeps, same}
+use Rattle.text.proofs.Laws.{_⨾_, keeps}
 use Rattle.expressions.proofs.Lines.{writing}
 use Rattle.expressions.proofs.line.put_written.Statement.{statement}
 use Rattle.expressions.proofs.line.put_written.Tie as tie
+
+returns : tie.Need-returns
+returns c =
+    let s5 = c .before .before in
+    let s4 = s5 .before .before .before .before .before in
+    let s3 = s4 .before .before .before .before in
+    let s2 = s3 .before .before .before .before .before in
+    let s1 = s2 .before .before .before .before in
+    search (writing, s1 .put-either .ensures ⨾ s2 .put-expression .ensures ⨾ s3 .put .ensures ⨾ s4 .put-expression2 .ensures ⨾ s5 .put2 .ensures)
 
 pub put-written-spec : {M : Type 1} → statement M
 put-written-spec =
     tie.close
     (tie.spec
-    (λ c. refl)
-    (λ c. refl)
-    (λ c κs. tt)
-    (λ c κs. c .before .before .before .before .before .before .before .before .pre)
-    (λ c. refl)
-    (λ c κs. tt)
-    (λ c κs. c .before .before .before .before .before .before .before .before .before .before .before .before .before .before .before .before .before .pre)
-    (λ c. refl)
-    (λ c κs. tt)
-    (λ c. keeps (c .before .before .before .before .before .before .before .before .before .before .before .before .before .before .before .before .before .before .before .before .put-either .ensures ⨾ c .before .before .before .before .before .before .before .before .before .before .before .before .before .before .before .before .put-expression .ensures ⨾ c .before .before .before .before .before .before .before .before .before .before .before .put .ensures ⨾ c .before .before .before .before .before .before .before .put-expression2 .ensures ⨾ c .before .before .put2 .ensures))
-    (λ c. let a = c .before .before .before .before .before .before .before .before .before .before .before .before .before .before .before .before .before .before .before .before .before .before .before .before .before .args in same (writing (a .stage) (a .textured) (a .to-temp) (a .colour) (a .alpha)) (c .before .before .before .before .before .before .before .before .before .before .before .before .before .before .before .before .before .before .before .before .put-either .ensures ⨾ c .before .before .before .before .before .before .before .before .before .before .before .before .before .before .before .before .put-expression .ensures ⨾ c .before .before .before .before .before .before .before .before .before .before .before .put .ensures ⨾ c .before .before .before .before .before .before .before .put-expression2 .ensures ⨾ c .before .before .put2 .ensures)))
+    (λ c. search)
+    (λ c. search)
+    (λ c κs. search)
+    (λ c κs. search)
+    (λ c. search)
+    (λ c κs. search)
+    (λ c κs. search)
+    (λ c. search)
+    (λ c κs. search)
+    (λ c. cc)
+    returns)

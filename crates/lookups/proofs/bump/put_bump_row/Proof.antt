@@ -1,4 +1,4 @@
-use Rattle.text.proofs.Laws.{_⨾_}
+use Rattle.text.proofs.Laws.{texts}
 use mathlib.Core.Path.{refl}
 use borrow.Author.Needs.{needs}
 use Rattle.metal.specs.Lookups.{bumpRow}
@@ -16,8 +16,4 @@ put-bump-row-spec =
     (λ c. refl)
     (λ c κs. tt)
     (λ c. search needs)
-    (λ c.
-    let c₃ = c .before .before in
-    let c₂ = c₃ .before .before .before .before .before in
-    let c₁ = c₂ .before .before .before .before in
-    c₁ .put .ensures ⨾ c₂ .put-decimal .ensures ⨾ c₃ .put2 .ensures))
+    (λ c. search texts))

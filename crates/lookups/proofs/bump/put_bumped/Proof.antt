@@ -1,4 +1,4 @@
-use Rattle.text.proofs.Laws.{_⨾_, pick-true, pick-false}
+use Rattle.text.proofs.Laws.{texts}
 use borrow.Author.Needs.{needs}
 use Rattle.lookups.proofs.bump.put_bumped.Statement.{statement}
 use Rattle.lookups.proofs.bump.put_bumped.Tie as tie
@@ -11,8 +11,6 @@ put-bumped-spec =
     (λ c κs. search needs)
     (λ c κs. search needs)
     (λ c. search needs)
-    (λ c.
-    pick-true (c .before .before .before .before .before .before .before .before .if1 .taken)
-    (c .before .before .before .before .before .before .put-displacement .ensures ⨾ c .before .before .put-lookup .ensures))
+    (λ c. search texts)
     (λ c. search needs)
-    (λ c. pick-false (c .before .before .before .before .if1 .left) (c .before .before .put-lookup2 .ensures)))
+    (λ c. search texts))

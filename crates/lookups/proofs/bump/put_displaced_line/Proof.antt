@@ -1,6 +1,6 @@
 use mathlib.Core.Path.{refl}
 use native.Mathlib.Omega.{arith}
-use Rattle.text.proofs.Laws.{_⨾_, keeps, same}
+use Rattle.text.proofs.Laws.{_⨾_, same}
 use Rattle.lookups.proofs.Lines.{displaces}
 use Rattle.lookups.proofs.bump.put_displaced_line.Statement.{statement}
 use Rattle.lookups.proofs.bump.put_displaced_line.Tie as tie
@@ -10,12 +10,20 @@ put-displaced-line-spec =
     tie.close
     (tie.spec
     (λ c. refl)
-    (λ c κs. omega (arith, c .before .before .before .pre .0, c .before .before .before .pre .1))
-    (λ c κs. c .before .before .before .before .before .before .before .pre)
+    (λ c κs. omega arith)
+    (λ c κs. search)
     (λ c. refl)
     (λ c κs. tt)
-    (λ c κs. c .before .before .before .before .before .before .before .before .before .before .before .before .before .before .before .before .pre .0)
+    (λ c κs. search)
     (λ c. refl)
     (λ c κs. tt)
-    (λ c. keeps (c .before .before .before .before .before .before .before .before .before .before .before .before .before .before .before .before .before .before .before .before .put-numbered .ensures ⨾ c .before .before .before .before .before .before .before .before .before .before .before .before .before .before .before .before .put-moved .ensures ⨾ c .before .before .before .before .before .before .before .before .before .before .before .put .ensures ⨾ c .before .before .before .before .before .before .before .put-coordinate .ensures ⨾ c .before .before .put2 .ensures))
-    (λ c. let a = c .before .before .before .before .before .before .before .before .before .before .before .before .before .before .before .before .before .before .before .before .before .before .before .before .args in same (displaces (a .i) (a .n) (a .base)) (c .before .before .before .before .before .before .before .before .before .before .before .before .before .before .before .before .before .before .before .before .put-numbered .ensures ⨾ c .before .before .before .before .before .before .before .before .before .before .before .before .before .before .before .before .put-moved .ensures ⨾ c .before .before .before .before .before .before .before .before .before .before .before .put .ensures ⨾ c .before .before .before .before .before .before .before .put-coordinate .ensures ⨾ c .before .before .put2 .ensures)))
+    (λ c. cc)
+    (λ c.
+    let c₁ = c .before .before in
+    let c₂ = c₁ .before .before .before .before .before in
+    let c₃ = c₂ .before .before .before .before in
+    let c₄ = c₃ .before .before .before .before .before in
+    let c₅ = c₄ .before .before .before .before in
+    let c₆ = c₅ .before .before .before .before in
+    let a = c₆ .args in same (displaces (a .i) (a .n) (a .base)) (c₅ .put-numbered .ensures ⨾ c₄ .put-moved .ensures ⨾ c₃ .put .ensures
+    ⨾ c₂ .put-coordinate .ensures ⨾ c₁ .put2 .ensures)))

@@ -1,6 +1,6 @@
 use mathlib.Core.Path.{refl}
 use native.Mathlib.Omega.{arith}
-use Rattle.text.proofs.Laws.{keeps, same}
+use Rattle.text.proofs.Laws.{same}
 use Rattle.lookups.proofs.Lines.{divided}
 use Rattle.lookups.proofs.bump.put_divided_line.Statement.{statement}
 use Rattle.lookups.proofs.bump.put_divided_line.Tie as tie
@@ -10,6 +10,6 @@ put-divided-line-spec =
     tie.close
     (tie.spec
     (λ c. refl)
-    (λ c κs. omega (arith, c .before .before .before .pre))
-    (λ c. keeps (c .before .before .put-numbered .ensures))
+    (λ c κs. omega arith)
+    (λ c. cc)
     (λ c. same (divided (c .before .before .before .before .before .before .args .i)) (c .before .before .put-numbered .ensures)))

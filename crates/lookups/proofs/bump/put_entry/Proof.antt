@@ -1,5 +1,5 @@
+use Rattle.text.proofs.Laws.{texts}
 use native.Mathlib.Omega.{arith}
-use Rattle.text.proofs.Laws.{_⨾_, keeps}
 use Rattle.lookups.proofs.bump.put_entry.Statement.{statement}
 use Rattle.lookups.proofs.bump.put_entry.Tie as tie
 
@@ -9,6 +9,6 @@ put-entry-spec =
     (tie.spec
     (λ c. omega (arith))
     (λ c κs. tt)
-    (λ c κs. omega (arith, c .before .before .before .before .before .before .before .pre))
-    (λ c. keeps (c .before .before .before .before .before .before .put-bump-row .ensures ⨾ c .before .before .put-numbered .ensures))
-    (λ c. c .before .before .before .before .before .before .put-bump-row .ensures ⨾ c .before .before .put-numbered .ensures))
+    (λ c κs. omega arith)
+    (λ c. cc)
+    (λ c. search texts))

@@ -1,4 +1,4 @@
-use Rattle.text.proofs.Laws.{pick-true, pick-false, nothing}
+use Rattle.text.proofs.Laws.{texts}
 use borrow.Author.Needs.{needs}
 use Rattle.lookups.proofs.bump.put_luminance.Statement.{statement}
 use Rattle.lookups.proofs.bump.put_luminance.Tie as tie
@@ -9,5 +9,5 @@ put-luminance-spec =
     (tie.spec
     (λ c κs. search needs)
     (λ c. search needs)
-    (λ c. pick-true (c .before .before .before .before .if1 .taken) (c .before .before .put-luminance-line .ensures))
-    (λ c. pick-false (c .if1 .left) (nothing _ _)))
+    (λ c. search texts)
+    (λ c. search texts))

@@ -1,6 +1,6 @@
 use mathlib.Core.Path.{refl}
 use native.Mathlib.Omega.{arith}
-use Rattle.text.proofs.Laws.{_⨾_, keeps, same}
+use Rattle.text.proofs.Laws.{_⨾_, same}
 use Rattle.metal.specs.Lookups.{coordinateText}
 use Rattle.lookups.proofs.Lines.{moves}
 use Rattle.lookups.proofs.bump.put_moved.Statement.{statement}
@@ -10,16 +10,25 @@ pub put-moved-spec : {M : Type 1} → statement M
 put-moved-spec =
     tie.close
     (tie.spec
-    (λ c κs. c .before .before .pre .0)
+    (λ c κs. search)
     (λ c. refl)
     (λ c κs. tt)
     (λ c. refl)
-    (λ c κs. omega (arith, c .before .before .before .before .before .before .before .before .before .before .before .before .pre .0, c .before .before .before .before .before .before .before .before .before .before .before .before .pre .1))
+    (λ c κs. omega arith)
     (λ c. refl)
-    (λ c κs. omega (arith, c .before .before .before .before .before .before .before .before .before .before .before .before .before .before .before .before .before .pre .0, c .before .before .before .before .before .before .before .before .before .before .before .before .before .before .before .before .before .pre .1))
+    (λ c κs. omega arith)
     (λ c. refl)
-    (λ c κs. omega (arith, c .before .before .before .before .before .before .before .before .before .before .before .before .before .before .before .before .before .before .before .before .before .before .pre .0, c .before .before .before .before .before .before .before .before .before .before .before .before .before .before .before .before .before .before .before .before .before .before .pre .1))
+    (λ c κs. omega arith)
     (λ c. refl)
-    (λ c κs. omega (arith, c .before .before .before .before .before .before .before .before .before .before .before .before .before .before .before .before .before .before .before .before .before .before .before .before .before .before .before .pre .0, c .before .before .before .before .before .before .before .before .before .before .before .before .before .before .before .before .before .before .before .before .before .before .before .before .before .before .before .pre .1))
-    (λ c. keeps (c .before .before .before .before .before .before .before .before .before .before .before .before .before .before .before .before .before .before .before .before .before .before .before .before .before .before .before .put-coordinate .ensures ⨾ c .before .before .before .before .before .before .before .before .before .before .before .before .before .before .before .before .before .before .before .before .before .before .put .ensures ⨾ c .before .before .before .before .before .before .before .before .before .before .before .before .before .before .before .before .before .put-entry .ensures ⨾ c .before .before .before .before .before .before .before .before .before .before .before .before .put-entry2 .ensures ⨾ c .before .before .before .before .before .before .before .put-entry3 .ensures ⨾ c .before .before .put-entry4 .ensures))
-    (λ c. let a = c .before .before .before .before .before .before .before .before .before .before .before .before .before .before .before .before .before .before .before .before .before .before .before .before .before .before .before .before .before .before .args in same (moves (a .n) (coordinateText (a .i) (a .base))) (c .before .before .before .before .before .before .before .before .before .before .before .before .before .before .before .before .before .before .before .before .before .before .before .before .before .before .before .put-coordinate .ensures ⨾ c .before .before .before .before .before .before .before .before .before .before .before .before .before .before .before .before .before .before .before .before .before .before .put .ensures ⨾ c .before .before .before .before .before .before .before .before .before .before .before .before .before .before .before .before .before .put-entry .ensures ⨾ c .before .before .before .before .before .before .before .before .before .before .before .before .put-entry2 .ensures ⨾ c .before .before .before .before .before .before .before .put-entry3 .ensures ⨾ c .before .before .put-entry4 .ensures)))
+    (λ c κs. omega arith)
+    (λ c. cc)
+    (λ c.
+    let c₁ = c .before .before in
+    let c₂ = c₁ .before .before .before .before .before in
+    let c₃ = c₂ .before .before .before .before .before in
+    let c₄ = c₃ .before .before .before .before .before in
+    let c₅ = c₄ .before .before .before .before .before in
+    let c₆ = c₅ .before .before .before .before .before in
+    let c₇ = c₆ .before .before .before in
+    let a = c₇ .args in same (moves (a .n) (coordinateText (a .i) (a .base))) (c₆ .put-coordinate .ensures ⨾ c₅ .put .ensures ⨾ c₄ .put-entry .ensures
+    ⨾ c₃ .put-entry2 .ensures ⨾ c₂ .put-entry3 .ensures ⨾ c₁ .put-entry4 .ensures)))

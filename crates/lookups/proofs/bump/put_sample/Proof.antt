@@ -22,5 +22,7 @@ put-sample-spec =
     (λ c. rw (c .before .before .before .before .enum-told .given .1) (c .before .before .put-lookup .ensures))
     (λ c. search needs)
     (λ c.
-    rw (c .before .before .before .before .before .before .before .before .before .before2 .given .1)
-    (c .before .before .before .before .before .before .put-bumped .ensures ⨾ c .before .before .put-luminance .ensures)))
+    let c₁ = c .before .before in
+    let c₂ = c₁ .before .before .before .before in
+    let c₃ = c₂ .before .before .before in
+    rw (c₃ .before2 .given .1) (c₂ .put-bumped .ensures ⨾ c₁ .put-luminance .ensures)))

@@ -1,6 +1,6 @@
 use mathlib.Core.Path.{refl}
 use native.Mathlib.Omega.{arith}
-use Rattle.text.proofs.Laws.{_⨾_, keeps, same}
+use Rattle.text.proofs.Laws.{_⨾_, same}
 use Prim.Native.Nat.{_+_, _*_}
 use Rattle.text.proofs.Laws.{pick-true, pick-false, nothing}
 use Rattle.metal.specs.Lookups.{bumpRow}
@@ -13,12 +13,19 @@ put-scaled-spec =
     tie.close
     (tie.spec
     (λ c. refl)
-    (λ c κs. omega (arith, c .before .before .before .before .pre))
+    (λ c κs. omega arith)
     (λ c. omega (arith))
     (λ c. omega (arith))
     (λ c κs. tt)
     (λ c. refl)
     (λ c κs. tt)
-    (λ c. keeps (c .before .before .before .before .before .before .before .before .before .before .before .put-numbered .ensures ⨾ c .before .before .before .before .before .before .before .put-bump-row .ensures ⨾ c .before .before .put .ensures))
-    (λ c. pick-true (c .before .before .before .before .before .before .before .before .before .before .before .before .before .before .if1 .taken) (same (scales (c .before .before .before .before .before .before .before .before .before .before .before .before .before .before .before .before .args .n) (bumpRow (2 * c .before .before .before .before .before .before .before .before .before .before .before .before .before .before .before .before .args .n + 1))) (c .before .before .before .before .before .before .before .before .before .before .before .put-numbered .ensures ⨾ c .before .before .before .before .before .before .before .put-bump-row .ensures ⨾ c .before .before .put .ensures)))
+    (λ c. cc)
+    (λ c.
+    let c₁ = c .before .before in
+    let c₂ = c₁ .before .before .before .before .before in
+    let c₃ = c₂ .before .before .before .before in
+    let c₄ = c₃ .before .before .before in
+    let c₅ = c₄ .before .before in
+    pick-true (c₄ .if1 .taken) (same (scales (c₅ .args .n) (bumpRow (2 * c₅ .args .n + 1))) (c₃ .put-numbered .ensures ⨾ c₂ .put-bump-row .ensures
+    ⨾ c₁ .put .ensures)))
     (λ c. pick-false (c .if1 .left) (nothing _ _)))

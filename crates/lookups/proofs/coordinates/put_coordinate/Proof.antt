@@ -1,6 +1,6 @@
 use mathlib.Core.Path.{refl}
 use native.Mathlib.Omega.{arith}
-use Rattle.text.proofs.Laws.{keeps, same}
+use Rattle.text.proofs.Laws.{same}
 use Rattle.metal.specs.Lookups.{coordinateText}
 use Rattle.lookups.proofs.coordinates.put_coordinate.Statement.{statement}
 use Rattle.lookups.proofs.coordinates.put_coordinate.Tie as tie
@@ -12,21 +12,21 @@ put-coordinate-spec =
     (tie.spec
     (λ c. c .match .keys1)
     (λ c. refl)
-    (λ c κs. omega (arith, c .before .before .before .before .before .pre))
+    (λ c κs. omega arith)
     (λ c. c .match .keys2)
     (λ c. refl)
-    (λ c κs. omega (arith, c .before .before .before .before .before .pre))
+    (λ c κs. omega arith)
     (λ c. c .match .keys3)
     (λ c. refl)
-    (λ c κs. omega (arith, c .before .before .before .before .before .pre))
+    (λ c κs. omega arith)
     (λ c. c .match .keys4)
     (λ c. refl)
-    (λ c κs. omega (arith, c .before .before .before .before .before .pre))
-    (λ c. keeps (c .before .before .put-numbered .ensures))
+    (λ c κs. omega arith)
+    (λ c. cc)
     (λ c. rw (c .before .before .before .before .before .enum-told .given .1) (same refl (c .before .before .put-numbered .ensures)))
-    (λ c. keeps (c .before .before .put-numbered2 .ensures))
+    (λ c. cc)
     (λ c. rw (c .before .before .before .before .before .enum-told2 .given .1) (same refl (c .before .before .put-numbered2 .ensures)))
-    (λ c. keeps (c .before .before .put-numbered3 .ensures))
+    (λ c. cc)
     (λ c. rw (c .before .before .before .before .before .enum-told3 .given .1) (same refl (c .before .before .put-numbered3 .ensures)))
-    (λ c. keeps (c .before .before .put-numbered4 .ensures))
+    (λ c. cc)
     (λ c. rw (c .before .before .before .before .before .enum-told4 .given .1) (same refl (c .before .before .put-numbered4 .ensures))))

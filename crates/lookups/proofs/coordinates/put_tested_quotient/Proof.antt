@@ -1,5 +1,5 @@
 use mathlib.Core.Path.{refl}
-use Rattle.text.proofs.Laws.{_⨾_, keeps}
+use Rattle.text.proofs.Laws.{_⨾_}
 use Rattle.metal.specs.Lookups.{quotientText}
 use Rattle.lookups.proofs.Laws.{regroup}
 use Rattle.lookups.proofs.coordinates.put_tested_quotient.Statement.{statement}
@@ -10,14 +10,22 @@ unfolding quotientText
 put-tested-quotient-spec =
     tie.close
     (tie.spec
-    (λ c κs. c .before .before .pre)
+    (λ c κs. search)
     (λ c. refl)
     (λ c κs. tt)
-    (λ c κs. c .before .before .before .before .before .before .before .before .before .before .before .pre)
+    (λ c κs. search)
     (λ c. refl)
     (λ c κs. tt)
-    (λ c κs. c .before .before .before .before .before .before .before .before .before .before .before .before .before .before .before .before .before .before .before .before .pre)
+    (λ c κs. search)
     (λ c. refl)
     (λ c κs. tt)
-    (λ c. keeps (c .before .before .before .before .before .before .before .before .before .before .before .before .before .before .before .before .before .before .before .before .before .before .before .before .before .put-coordinate .ensures ⨾ c .before .before .before .before .before .before .before .before .before .before .before .before .before .before .before .before .before .before .before .before .put .ensures ⨾ c .before .before .before .before .before .before .before .before .before .before .before .before .before .before .before .before .put-swizzled .ensures ⨾ c .before .before .before .before .before .before .before .before .before .before .before .put2 .ensures ⨾ c .before .before .before .before .before .before .before .put-coordinate2 .ensures ⨾ c .before .before .put3 .ensures))
-    (λ c. c .before .before .before .before .before .before .before .before .before .before .before .before .before .before .before .before .before .before .before .before .before .before .before .before .before .put-coordinate .ensures ⨾ c .before .before .before .before .before .before .before .before .before .before .before .before .before .before .before .before .before .before .before .before .put .ensures ⨾ regroup (c .before .before .before .before .before .before .before .before .before .before .before .before .before .before .before .before .put-swizzled .ensures ⨾ c .before .before .before .before .before .before .before .before .before .before .before .put2 .ensures ⨾ c .before .before .before .before .before .before .before .put-coordinate2 .ensures ⨾ c .before .before .put3 .ensures)))
+    (λ c. cc)
+    (λ c.
+    let c₁ = c .before .before in
+    let c₂ = c₁ .before .before .before .before .before in
+    let c₃ = c₂ .before .before .before .before in
+    let c₄ = c₃ .before .before .before .before .before in
+    let c₅ = c₄ .before .before .before .before in
+    let c₆ = c₅ .before .before .before .before .before in
+    c₆ .put-coordinate .ensures ⨾ c₅ .put .ensures ⨾ regroup (c₄ .put-swizzled .ensures ⨾ c₃ .put2 .ensures ⨾ c₂ .put-coordinate2 .ensures
+    ⨾ c₁ .put3 .ensures)))

@@ -1,5 +1,5 @@
 use mathlib.Core.Path.{refl}
-use Rattle.text.proofs.Laws.{_⨾_, keeps, same}
+use Rattle.text.proofs.Laws.{_⨾_, same}
 use Rattle.text.proofs.Laws.{pick-true, pick-false}
 use Rattle.metal.specs.Lookups.{uvText}
 use Rattle.lookups.proofs.Laws.{regroup, zeroed}
@@ -13,12 +13,19 @@ put-uv-spec =
     (tie.spec
     (λ c. refl)
     (λ c κs. tt)
-    (λ c κs. c .before .before .before .before .before .before .before .before .pre)
+    (λ c κs. search)
     (λ c. refl)
     (λ c. refl)
     (λ c κs. tt)
-    (λ c κs. c .before .before .before .pre)
-    (λ c. keeps (c .before .before .before .before .before .before .before .before .before .before .before .before .put .ensures ⨾ c .before .before .before .before .before .before .before .before .put-tested-quotient .ensures ⨾ c .before .before .put-either .ensures))
-    (λ c. pick-true (c .before .before .before .before .before .before .before .before .before .before .before .before .before .before .before .if1 .taken) (c .before .before .before .before .before .before .before .before .before .before .before .before .put .ensures ⨾ regroup (c .before .before .before .before .before .before .before .before .put-tested-quotient .ensures ⨾ same (zeroed (c .before .before .before .before .before .before .before .before .before .before .before .before .before .before .before .before .before .args .three)) (c .before .before .put-either .ensures))))
-    (λ c. keeps (c .before .before .put-swizzled .ensures))
+    (λ c κs. search)
+    (λ c. cc)
+    (λ c.
+    let c₁ = c .before .before in
+    let c₂ = c₁ .before .before .before .before .before .before in
+    let c₃ = c₂ .before .before .before .before in
+    let c₄ = c₃ .before .before .before in
+    let c₅ = c₄ .before .before in
+    pick-true (c₄ .if1 .taken) (c₃ .put .ensures ⨾ regroup (c₂ .put-tested-quotient .ensures
+    ⨾ same (zeroed (c₅ .args .three)) (c₁ .put-either .ensures))))
+    (λ c. cc)
     (λ c. pick-false (c .before .before .before .before .if1 .left) (c .before .before .put-swizzled .ensures)))

@@ -1,4 +1,4 @@
-use Rattle.text.proofs.Laws.{_⨾_, pick-true, pick-false}
+use Rattle.text.proofs.Laws.{texts}
 use borrow.Author.Needs.{needs}
 use Rattle.metal.specs.Lookups.{lookupText}
 use Rattle.lookups.proofs.lookup.put_comparison_lines.Statement.{statement}
@@ -13,8 +13,6 @@ put-comparison-lines-spec =
     (λ c κs. search needs)
     (λ c κs. search needs)
     (λ c. search needs)
-    (λ c.
-    pick-true (c .before .before .before .before .before .before .before .before .if1 .taken)
-    (c .before .before .before .before .before .before .put-projected-line .ensures ⨾ c .before .before .put-compare-line .ensures))
+    (λ c. search texts)
     (λ c. search needs)
-    (λ c. pick-false (c .before .before .before .before .if1 .left) (c .before .before .put-compare-line2 .ensures)))
+    (λ c. search texts))

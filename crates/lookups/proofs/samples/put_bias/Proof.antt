@@ -1,6 +1,6 @@
 use mathlib.Core.Path.{refl}
 use native.Mathlib.Omega.{arith}
-use Rattle.text.proofs.Laws.{keeps, same}
+use Rattle.text.proofs.Laws.{same}
 use Rattle.text.proofs.Laws.{pick-true, pick-false, nothing}
 use Rattle.lookups.proofs.Lines.{biased}
 use Rattle.lookups.proofs.samples.put_bias.Statement.{statement}
@@ -11,7 +11,7 @@ put-bias-spec =
     tie.close
     (tie.spec
     (λ c. refl)
-    (λ c κs. omega (arith, c .before .before .before .before .pre))
-    (λ c. keeps (c .before .before .put-numbered .ensures))
+    (λ c κs. omega arith)
+    (λ c. cc)
     (λ c. pick-true (c .before .before .before .before .before .if1 .taken) (same (biased (c .before .before .before .before .before .before .before .args .i)) (c .before .before .put-numbered .ensures)))
     (λ c. pick-false (c .if1 .left) (nothing _ _)))

@@ -1,6 +1,6 @@
 use mathlib.Core.Path.{refl}
 use native.Mathlib.Omega.{arith}
-use Rattle.text.proofs.Laws.{_⨾_, keeps, same}
+use Rattle.text.proofs.Laws.{_⨾_, same}
 use Rattle.metal.specs.Lookups.{coordinateText}
 use Rattle.lookups.proofs.Lines.{compared}
 use Rattle.lookups.proofs.samples.put_compare_line.Statement.{statement}
@@ -11,15 +11,25 @@ put-compare-line-spec =
     tie.close
     (tie.spec
     (λ c. refl)
-    (λ c κs. omega (arith, c .before .before .before .pre))
-    (λ c κs. c .before .before .before .before .before .before .before .pre)
+    (λ c κs. omega arith)
+    (λ c κs. search)
     (λ c. refl)
     (λ c κs. tt)
-    (λ c κs. c .before .before .before .before .before .before .before .before .before .before .before .before .before .before .before .before .pre)
+    (λ c κs. search)
     (λ c. refl)
     (λ c κs. tt)
-    (λ c κs. c .before .before .before .before .before .before .before .before .before .before .before .before .before .before .before .before .before .before .before .before .before .before .before .before .before .pre)
+    (λ c κs. search)
     (λ c. refl)
     (λ c κs. tt)
-    (λ c. keeps (c .before .before .before .before .before .before .before .before .before .before .before .before .before .before .before .before .before .before .before .before .before .before .before .before .before .before .before .before .before .put-numbered .ensures ⨾ c .before .before .before .before .before .before .before .before .before .before .before .before .before .before .before .before .before .before .before .before .before .before .before .before .before .put-coordinate .ensures ⨾ c .before .before .before .before .before .before .before .before .before .before .before .before .before .before .before .before .before .before .before .before .put .ensures ⨾ c .before .before .before .before .before .before .before .before .before .before .before .before .before .before .before .before .put-coordinate2 .ensures ⨾ c .before .before .before .before .before .before .before .before .before .before .before .put2 .ensures ⨾ c .before .before .before .before .before .before .before .put-level .ensures ⨾ c .before .before .put3 .ensures))
-    (λ c. let a = c .before .before .before .before .before .before .before .before .before .before .before .before .before .before .before .before .before .before .before .before .before .before .before .before .before .before .before .before .before .before .before .before .before .args in same (compared (a .lod) (a .i) (coordinateText (a .i) (a .c))) (c .before .before .before .before .before .before .before .before .before .before .before .before .before .before .before .before .before .before .before .before .before .before .before .before .before .before .before .before .before .put-numbered .ensures ⨾ c .before .before .before .before .before .before .before .before .before .before .before .before .before .before .before .before .before .before .before .before .before .before .before .before .before .put-coordinate .ensures ⨾ c .before .before .before .before .before .before .before .before .before .before .before .before .before .before .before .before .before .before .before .before .put .ensures ⨾ c .before .before .before .before .before .before .before .before .before .before .before .before .before .before .before .before .put-coordinate2 .ensures ⨾ c .before .before .before .before .before .before .before .before .before .before .before .put2 .ensures ⨾ c .before .before .before .before .before .before .before .put-level .ensures ⨾ c .before .before .put3 .ensures)))
+    (λ c. cc)
+    (λ c.
+    let c₁ = c .before .before in
+    let c₂ = c₁ .before .before .before .before .before in
+    let c₃ = c₂ .before .before .before .before in
+    let c₄ = c₃ .before .before .before .before .before in
+    let c₅ = c₄ .before .before .before .before in
+    let c₆ = c₅ .before .before .before .before .before in
+    let c₇ = c₆ .before .before .before .before in
+    let c₈ = c₇ .before .before .before .before in
+    let a = c₈ .args in same (compared (a .lod) (a .i) (coordinateText (a .i) (a .c))) (c₇ .put-numbered .ensures ⨾ c₆ .put-coordinate .ensures
+    ⨾ c₅ .put .ensures ⨾ c₄ .put-coordinate2 .ensures ⨾ c₃ .put2 .ensures ⨾ c₂ .put-level .ensures ⨾ c₁ .put3 .ensures)))

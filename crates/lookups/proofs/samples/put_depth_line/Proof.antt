@@ -1,6 +1,6 @@
 use mathlib.Core.Path.{refl}
 use native.Mathlib.Omega.{arith}
-use Rattle.text.proofs.Laws.{_⨾_, keeps, same}
+use Rattle.text.proofs.Laws.{_⨾_, same}
 use Rattle.lookups.proofs.Lines.{fetched}
 use Rattle.lookups.proofs.samples.put_depth_line.Statement.{statement}
 use Rattle.lookups.proofs.samples.put_depth_line.Tie as tie
@@ -10,13 +10,21 @@ put-depth-line-spec =
     tie.close
     (tie.spec
     (λ c. refl)
-    (λ c κs. omega (arith, c .before .before .before .pre))
-    (λ c κs. c .before .before .before .before .before .before .before .pre)
+    (λ c κs. omega arith)
+    (λ c κs. search)
     (λ c. refl)
     (λ c κs. tt)
-    (λ c κs. c .before .before .before .before .before .before .before .before .before .before .before .before .before .before .before .before .pre)
+    (λ c κs. search)
     (λ c. refl)
     (λ c. refl)
     (λ c κs. tt)
-    (λ c. keeps (c .before .before .before .before .before .before .before .before .before .before .before .before .before .before .before .before .before .before .before .before .before .put-numbered .ensures ⨾ c .before .before .before .before .before .before .before .before .before .before .before .before .before .before .before .before .before .put-uv .ensures ⨾ c .before .before .before .before .before .before .before .before .before .before .before .before .put .ensures ⨾ c .before .before .before .before .before .before .before .before .put-level .ensures ⨾ c .before .before .put-either .ensures))
-    (λ c. let a = c .before .before .before .before .before .before .before .before .before .before .before .before .before .before .before .before .before .before .before .before .before .before .before .before .before .args in same (fetched (a .red) (a .lod) (a .projected) (a .i) (a .c)) (c .before .before .before .before .before .before .before .before .before .before .before .before .before .before .before .before .before .before .before .before .before .put-numbered .ensures ⨾ c .before .before .before .before .before .before .before .before .before .before .before .before .before .before .before .before .before .put-uv .ensures ⨾ c .before .before .before .before .before .before .before .before .before .before .before .before .put .ensures ⨾ c .before .before .before .before .before .before .before .before .put-level .ensures ⨾ c .before .before .put-either .ensures)))
+    (λ c. cc)
+    (λ c.
+    let c₁ = c .before .before in
+    let c₂ = c₁ .before .before .before .before .before .before in
+    let c₃ = c₂ .before .before .before .before in
+    let c₄ = c₃ .before .before .before .before .before in
+    let c₅ = c₄ .before .before .before .before in
+    let c₆ = c₅ .before .before .before .before in
+    let a = c₆ .args in same (fetched (a .red) (a .lod) (a .projected) (a .i) (a .c)) (c₅ .put-numbered .ensures ⨾ c₄ .put-uv .ensures ⨾ c₃ .put .ensures
+    ⨾ c₂ .put-level .ensures ⨾ c₁ .put-either .ensures)))

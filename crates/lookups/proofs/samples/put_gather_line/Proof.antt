@@ -1,6 +1,6 @@
 use mathlib.Core.Path.{refl}
 use native.Mathlib.Omega.{arith}
-use Rattle.text.proofs.Laws.{_⨾_, keeps, same}
+use Rattle.text.proofs.Laws.{_⨾_, same}
 use Rattle.metal.specs.Lookups.{coordinateText}
 use Rattle.lookups.proofs.Lines.{gathered}
 use Rattle.lookups.proofs.samples.put_gather_line.Statement.{statement}
@@ -11,13 +11,21 @@ put-gather-line-spec =
     tie.close
     (tie.spec
     (λ c. refl)
-    (λ c κs. omega (arith, c .before .before .before .pre))
-    (λ c κs. c .before .before .before .before .before .before .before .pre)
+    (λ c κs. omega arith)
+    (λ c κs. search)
     (λ c. refl)
-    (λ c κs. omega (arith, c .before .before .before .before .before .before .before .before .before .before .before .before .pre))
-    (λ c. refl)
-    (λ c κs. tt)
+    (λ c κs. omega arith)
     (λ c. refl)
     (λ c κs. tt)
-    (λ c. keeps (c .before .before .before .before .before .before .before .before .before .before .before .before .before .before .before .before .before .before .before .before .before .put-numbered .ensures ⨾ c .before .before .before .before .before .before .before .before .before .before .before .before .before .before .before .before .before .put-uv .ensures ⨾ c .before .before .before .before .before .before .before .before .before .before .before .before .put-numbered2 .ensures ⨾ c .before .before .before .before .before .before .before .put-when .ensures ⨾ c .before .before .put .ensures))
-    (λ c. let a = c .before .before .before .before .before .before .before .before .before .before .before .before .before .before .before .before .before .before .before .before .before .before .before .before .before .args in same (gathered (a .alpha) (a .projected) (a .i) (coordinateText (a .i) (a .c))) (c .before .before .before .before .before .before .before .before .before .before .before .before .before .before .before .before .before .before .before .before .before .put-numbered .ensures ⨾ c .before .before .before .before .before .before .before .before .before .before .before .before .before .before .before .before .before .put-uv .ensures ⨾ c .before .before .before .before .before .before .before .before .before .before .before .before .put-numbered2 .ensures ⨾ c .before .before .before .before .before .before .before .put-when .ensures ⨾ c .before .before .put .ensures)))
+    (λ c. refl)
+    (λ c κs. tt)
+    (λ c. cc)
+    (λ c.
+    let c₁ = c .before .before in
+    let c₂ = c₁ .before .before .before .before .before in
+    let c₃ = c₂ .before .before .before .before .before in
+    let c₄ = c₃ .before .before .before .before .before in
+    let c₅ = c₄ .before .before .before .before in
+    let c₆ = c₅ .before .before .before .before in
+    let a = c₆ .args in same (gathered (a .alpha) (a .projected) (a .i) (coordinateText (a .i) (a .c))) (c₅ .put-numbered .ensures ⨾ c₄ .put-uv .ensures
+    ⨾ c₃ .put-numbered2 .ensures ⨾ c₂ .put-when .ensures ⨾ c₁ .put .ensures)))

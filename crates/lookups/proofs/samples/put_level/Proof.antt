@@ -1,6 +1,5 @@
 use mathlib.Core.Path.{refl}
 use native.Mathlib.Omega.{arith}
-use Rattle.text.proofs.Laws.{keeps}
 use mathlib.Core.Bool.{Bool, true, false}
 use Rattle.metal.specs.Lookups.{levelText}
 use Rattle.text.proofs.Laws.{by-test}
@@ -13,10 +12,10 @@ put-level-spec =
     tie.close
     (tie.spec
     (λ c. refl)
-    (λ c κs. omega (arith, c .before .before .before .before .pre))
+    (λ c κs. omega arith)
     (λ c. refl)
     (λ c κs. tt)
-    (λ c. keeps (c .before .before .put-numbered .ensures))
+    (λ c. cc)
     (λ c. let a = c .before .before .before .before .before .before .before .args in by-test (λ (b : Bool). levelText b (a .i)) (a .lod) true (c .before .before .before .before .before .if1 .taken) (leveled (a .i)) (c .before .before .put-numbered .ensures))
-    (λ c. keeps (c .before .before .put .ensures))
+    (λ c. cc)
     (λ c. let a = c .before .before .before .before .before .before .before .args in by-test (λ (b : Bool). levelText b (a .i)) (a .lod) false (c .before .before .before .before .before .if1 .left) (unleveled (a .i)) (c .before .before .put .ensures)))

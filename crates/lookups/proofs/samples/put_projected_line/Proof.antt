@@ -1,6 +1,6 @@
 use mathlib.Core.Path.{refl}
 use native.Mathlib.Omega.{arith}
-use Rattle.text.proofs.Laws.{_⨾_, keeps, same}
+use Rattle.text.proofs.Laws.{_⨾_, same}
 use Rattle.metal.specs.Lookups.{coordinateText}
 use Rattle.lookups.proofs.Lines.{projects}
 use Rattle.lookups.proofs.samples.put_projected_line.Statement.{statement}
@@ -11,9 +11,15 @@ put-projected-line-spec =
     tie.close
     (tie.spec
     (λ c. refl)
-    (λ c κs. omega (arith, c .before .before .before .pre))
-    (λ c κs. c .before .before .before .before .before .before .before .pre)
+    (λ c κs. omega arith)
+    (λ c κs. search)
     (λ c. refl)
     (λ c κs. tt)
-    (λ c. keeps (c .before .before .before .before .before .before .before .before .before .before .before .put-numbered .ensures ⨾ c .before .before .before .before .before .before .before .put-tested-quotient .ensures ⨾ c .before .before .put .ensures))
-    (λ c. let a = c .before .before .before .before .before .before .before .before .before .before .before .before .before .before .before .args in same (projects (a .i) (coordinateText (a .i) (a .c))) (c .before .before .before .before .before .before .before .before .before .before .before .put-numbered .ensures ⨾ c .before .before .before .before .before .before .before .put-tested-quotient .ensures ⨾ c .before .before .put .ensures)))
+    (λ c. cc)
+    (λ c.
+    let c₁ = c .before .before in
+    let c₂ = c₁ .before .before .before .before .before in
+    let c₃ = c₂ .before .before .before .before in
+    let c₄ = c₃ .before .before .before .before in
+    let a = c₄ .args in same (projects (a .i) (coordinateText (a .i) (a .c))) (c₃ .put-numbered .ensures ⨾ c₂ .put-tested-quotient .ensures
+    ⨾ c₁ .put .ensures)))

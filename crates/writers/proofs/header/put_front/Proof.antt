@@ -1,6 +1,5 @@
-use mathlib.Core.Path.{refl}
-use Rattle.text.proofs.Laws.{_⨾_, keeps}
-use Rattle.metal.specs.Whole.{fragmentText, frontText}
+use Rattle.metal.specs.Whole.{varyingsText, srgbHelperText, fragmentText, frontText}
+use Rattle.writers.proofs.Parts.{picked, answered}
 use Rattle.writers.proofs.header.put_front.Statement.{statement}
 use Rattle.writers.proofs.header.put_front.Tie as tie
 
@@ -9,13 +8,13 @@ unfolding frontText fragmentText
 put-front-spec =
     tie.close
     (tie.spec
-    (λ c κs. tt)
-    (λ c κs. tt)
-    (λ c κs. tt)
-    (λ c κs. tt)
-    (λ c κs. tt)
-    (λ c. refl)
-    (λ c. refl)
-    (λ c κs. tt)
-    (λ c. keeps (c .before .before .before .before .before .before .before .before .before .before .before .before .before .before .put-varyings .ensures ⨾ c .before .before .before .before .before .before .before .before .before .put-srgb-helper .ensures ⨾ c .before .before .put-either .ensures))
-    (λ c. rw (← c .before .before .before .before .before .before .before .before .before .before .before .before .before .before .before .flat-shade .ensures, ← c .before .before .before .before .before .before .before .before .before .before .srgb-write .ensures, ← c .before .before .before .before .before .sample-mask .ensures) (c .before .before .before .before .before .before .before .before .before .before .before .before .before .before .put-varyings .ensures ⨾ c .before .before .before .before .before .before .before .before .before .put-srgb-helper .ensures ⨾ c .before .before .put-either .ensures)))
+    (λ c κs. search)
+    (λ c κs. search)
+    (λ c κs. search)
+    (λ c κs. search)
+    (λ c κs. search)
+    (λ c. search)
+    (λ c. search)
+    (λ c κs. search)
+    (λ c. cc)
+    (λ c. search (picked, answered varyingsText, answered srgbHelperText)))

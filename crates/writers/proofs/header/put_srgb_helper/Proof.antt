@@ -1,5 +1,4 @@
 use mathlib.Core.Path.{refl}
-use Rattle.text.proofs.Laws.{keeps}
 use mathlib.Core.Bool.{true, false}
 use Rattle.text.proofs.Laws.{nothing}
 use Rattle.text.proofs.Laws.{by-test}
@@ -14,6 +13,6 @@ put-srgb-helper-spec =
     (tie.spec
     (λ c. refl)
     (λ c κs. tt)
-    (λ c. keeps (c .before .before .put .ensures))
+    (λ c. cc)
     (λ c. by-test srgbHelperText (c .before .before .before .before .before .before .before .args .on) true (c .before .before .before .before .before .if1 .taken) helper (c .before .before .put .ensures))
     (λ c. by-test srgbHelperText (c .before .before .args .on) false (c .if1 .left) no-helper (nothing _ _)))

@@ -1,5 +1,5 @@
 use mathlib.Core.Path.{refl}
-use Rattle.text.proofs.Laws.{_⨾_, keeps, same}
+use Rattle.text.proofs.Laws.{_⨾_, same}
 use Rattle.writers.proofs.Parts.{varyings}
 use Rattle.writers.proofs.header.put_varyings.Statement.{statement}
 use Rattle.writers.proofs.header.put_varyings.Tie as tie
@@ -15,5 +15,10 @@ put-varyings-spec =
     (λ c κs. tt)
     (λ c. refl)
     (λ c κs. tt)
-    (λ c. keeps (c .before .before .before .before .before .before .before .before .before .before .before .before .before .put .ensures ⨾ c .before .before .before .before .before .before .before .put-either .ensures ⨾ c .before .before .put2 .ensures))
-    (λ c. same (varyings (c .before .before .before .before .before .before .before .before .before .before .before .before .before .before .before .before .before .args .flat)) (c .before .before .before .before .before .before .before .before .before .before .before .before .before .put .ensures ⨾ c .before .before .before .before .before .before .before .put-either .ensures ⨾ c .before .before .put2 .ensures)))
+    (λ c. cc)
+    (λ c.
+    let c₁ = c .before .before in
+    let c₂ = c₁ .before .before .before .before .before in
+    let c₃ = c₂ .before .before .before .before .before .before in
+    let c₄ = c₃ .before .before .before .before in
+    same (varyings (c₄ .args .flat)) (c₃ .put .ensures ⨾ c₂ .put-either .ensures ⨾ c₁ .put2 .ensures)))

@@ -1,5 +1,5 @@
 use mathlib.Core.Path.{refl}
-use Rattle.text.proofs.Laws.{keeps, same}
+use Rattle.text.proofs.Laws.{same}
 use borrow.Author.Tests.{ne-eqb}
 use Rattle.text.proofs.Laws.{pick-false}
 use Rattle.metal.specs.Output.{fogFactorText}
@@ -17,9 +17,9 @@ put-fog-factor-spec =
     (λ c κs. tt)
     (λ c. refl)
     (λ c κs. tt)
-    (λ c. keeps (c .before .before .put .ensures))
+    (λ c. cc)
     (λ c. rw (c .before .before .before .before .before .match .keys1) (same refl (c .before .before .put .ensures)))
-    (λ c. keeps (c .before .before .put2 .ensures))
+    (λ c. cc)
     (λ c. rw (c .before .before .before .before .before .match .keys2) (same refl (c .before .before .put2 .ensures)))
-    (λ c. keeps (c .before .before .put3 .ensures))
+    (λ c. cc)
     (λ c. let m = c .before .before .before .before .before .match in pick-false (ne-eqb _ _ (m .rest .0 .1)) (pick-false (ne-eqb _ _ (m .rest .1)) (same refl (c .before .before .put3 .ensures)))))

@@ -1,4 +1,4 @@
-use Rattle.text.proofs.Laws.{_⨾_, keeps}
+use Rattle.text.proofs.Laws.{_⨾_}
 use Rattle.metal.specs.Output.{outputText}
 use Rattle.writers.proofs.Parts.{regroup}
 use Rattle.writers.proofs.output.put_output.Statement.{statement}
@@ -15,5 +15,13 @@ put-output-spec =
     (λ c κs. tt)
     (λ c κs. tt)
     (λ c κs. tt)
-    (λ c. keeps (c .before .before .before .before .before .before .before .before .before .before .before .before .before .before .before .before .before .before .put-specular .ensures ⨾ c .before .before .before .before .before .before .before .before .before .before .before .before .before .before .put-fog .ensures ⨾ c .before .before .before .before .before .before .before .before .before .before .put-test .ensures ⨾ c .before .before .before .before .before .before .put-srgb .ensures ⨾ c .before .before .put-return .ensures))
-    (λ c. rw (← c .before .before .before .before .before .before .before .before .before .before .before .before .before .before .before .before .before .before .before .before .srgb-write .ensures) (regroup (c .before .before .before .before .before .before .before .before .before .before .before .before .before .before .before .before .before .before .put-specular .ensures ⨾ c .before .before .before .before .before .before .before .before .before .before .before .before .before .before .put-fog .ensures ⨾ c .before .before .before .before .before .before .before .before .before .before .put-test .ensures ⨾ c .before .before .before .before .before .before .put-srgb .ensures ⨾ c .before .before .put-return .ensures))))
+    (λ c. cc)
+    (λ c.
+    let c₁ = c .before .before in
+    let c₂ = c₁ .before .before .before .before in
+    let c₃ = c₂ .before .before .before .before in
+    let c₄ = c₃ .before .before .before .before in
+    let c₅ = c₄ .before .before .before .before in
+    let c₆ = c₅ .before .before in
+    rw (← c₆ .srgb-write .ensures) (regroup (c₅ .put-specular .ensures ⨾ c₄ .put-fog .ensures ⨾ c₃ .put-test .ensures ⨾ c₂ .put-srgb .ensures
+    ⨾ c₁ .put-return .ensures))))

@@ -1,5 +1,5 @@
 use mathlib.Core.Path.{refl}
-use Rattle.text.proofs.Laws.{keeps, same}
+use Rattle.text.proofs.Laws.{same}
 use Rattle.writers.proofs.Parts.{highlit}
 use Rattle.writers.proofs.output.put_specular.Statement.{statement}
 use Rattle.writers.proofs.output.put_specular.Tie as tie
@@ -11,5 +11,5 @@ put-specular-spec =
     (λ c. refl)
     (λ c. refl)
     (λ c κs. tt)
-    (λ c. keeps (c .before .before .put-either .ensures))
+    (λ c. cc)
     (λ c. same (highlit (c .before .before .before .before .before .before .before .args .on)) (c .before .before .put-either .ensures)))

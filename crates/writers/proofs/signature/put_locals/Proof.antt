@@ -1,5 +1,5 @@
 use mathlib.Core.Path.{refl}
-use Rattle.text.proofs.Laws.{keeps, same}
+use Rattle.text.proofs.Laws.{same}
 use Rattle.writers.proofs.Parts.{declared}
 use Rattle.writers.proofs.signature.put_locals.Statement.{statement}
 use Rattle.writers.proofs.signature.put_locals.Tie as tie
@@ -11,5 +11,5 @@ put-locals-spec =
     (λ c. refl)
     (λ c. refl)
     (λ c κs. tt)
-    (λ c. keeps (c .before .before .put-either .ensures))
+    (λ c. cc)
     (λ c. same (declared (c .before .before .before .before .before .before .before .args .alive)) (c .before .before .put-either .ensures)))

@@ -1,6 +1,5 @@
-use mathlib.Core.Path.{refl}
-use Rattle.text.proofs.Laws.{_⨾_, keeps}
 use mathlib.Core.Path.{ap}
+use Rattle.text.proofs.Laws.{_⨾_, keeps}
 use Rattle.cascade.specs.Survey.{surveyOf}
 use Rattle.cascade.specs.declared.Survey.{Survey}
 use Rattle.metal.specs.Whole.{parametersText}
@@ -8,26 +7,41 @@ use Rattle.writers.proofs.Parts.{regroup}
 use Rattle.writers.proofs.signature.put_parameters.Statement.{statement}
 use Rattle.writers.proofs.signature.put_parameters.Tie as tie
 
-pub put-parameters-spec : {M : Type 1} → statement M
+returns : tie.Need-returns
 unfolding parametersText surveyOf
+returns c =
+    let s7 = c .before .before in
+    let s6 = s7 .before .before .before .before .before in
+    let s5 = s6 .before .before .before .before in
+    let s4 = s5 .before .before .before .before .before .before in
+    let s3 = s4 .before .before .before .before .before in
+    let s2 = s3 .before .before .before .before .before .before in
+    let s1 = s2 .before .before .before .before .before .before in
+    let wide = ap (λ (s : Survey). s .«bump_env») (s1 .before .before .before .before .pre) in
+    rw (← wide, ← s1 .before .point-sprite .ensures, ← s2 .before .before .tested .ensures, ← s3 .before .before .fogged .ensures, ← s5 .before .before .lod-bias .ensures)
+    (regroup (s1 .put-stage-in .ensures ⨾ s2 .put-when .ensures ⨾ s3 .put-when2 .ensures ⨾ s4 .put-when3 .ensures ⨾ s5 .put-when4 .ensures
+    ⨾ s6 .put-samplers .ensures ⨾ s7 .put .ensures))
+
+pub put-parameters-spec : {M : Type 1} → statement M
+unfolding surveyOf
 put-parameters-spec =
     tie.close
     (tie.spec
-    (λ c κs. tt)
-    (λ c κs. tt)
-    (λ c κs. tt)
-    (λ c. refl)
-    (λ c κs. tt)
-    (λ c κs. tt)
-    (λ c. refl)
-    (λ c κs. tt)
-    (λ c. refl)
-    (λ c κs. tt)
-    (λ c κs. tt)
-    (λ c. refl)
-    (λ c κs. tt)
-    (λ c κs. ap (λ (s : Survey). s .count) (c .before .before .before .before .before .before .before .before .before .before .before .before .before .before .before .before .before .before .before .before .before .before .before .before .before .before .before .before .before .before .pre))
-    (λ c. refl)
-    (λ c κs. tt)
-    (λ c. keeps (c .before .before .before .before .before .before .before .before .before .before .before .before .before .before .before .before .before .before .before .before .before .before .before .before .before .before .before .before .before .before .before .before .before .before .put-stage-in .ensures ⨾ c .before .before .before .before .before .before .before .before .before .before .before .before .before .before .before .before .before .before .before .before .before .before .before .before .before .before .before .before .put-when .ensures ⨾ c .before .before .before .before .before .before .before .before .before .before .before .before .before .before .before .before .before .before .before .before .before .before .put-when2 .ensures ⨾ c .before .before .before .before .before .before .before .before .before .before .before .before .before .before .before .before .before .put-when3 .ensures ⨾ c .before .before .before .before .before .before .before .before .before .before .before .put-when4 .ensures ⨾ c .before .before .before .before .before .before .before .put-samplers .ensures ⨾ c .before .before .put .ensures))
-    (λ c. rw (← ap (λ (s : Survey). s .«bump_env») (c .before .before .before .before .before .before .before .before .before .before .before .before .before .before .before .before .before .before .before .before .before .before .before .before .before .before .before .before .before .before .before .before .before .before .before .before .before .before .pre), ← c .before .before .before .before .before .before .before .before .before .before .before .before .before .before .before .before .before .before .before .before .before .before .before .before .before .before .before .before .before .before .before .before .before .before .before .point-sprite .ensures, ← c .before .before .before .before .before .before .before .before .before .before .before .before .before .before .before .before .before .before .before .before .before .before .before .before .before .before .before .before .before .before .tested .ensures, ← c .before .before .before .before .before .before .before .before .before .before .before .before .before .before .before .before .before .before .before .before .before .before .before .before .fogged .ensures, ← c .before .before .before .before .before .before .before .before .before .before .before .before .before .lod-bias .ensures) (regroup (c .before .before .before .before .before .before .before .before .before .before .before .before .before .before .before .before .before .before .before .before .before .before .before .before .before .before .before .before .before .before .before .before .before .before .put-stage-in .ensures ⨾ c .before .before .before .before .before .before .before .before .before .before .before .before .before .before .before .before .before .before .before .before .before .before .before .before .before .before .before .before .put-when .ensures ⨾ c .before .before .before .before .before .before .before .before .before .before .before .before .before .before .before .before .before .before .before .before .before .before .put-when2 .ensures ⨾ c .before .before .before .before .before .before .before .before .before .before .before .before .before .before .before .before .before .put-when3 .ensures ⨾ c .before .before .before .before .before .before .before .before .before .before .before .put-when4 .ensures ⨾ c .before .before .before .before .before .before .before .put-samplers .ensures ⨾ c .before .before .put .ensures))))
+    (λ c κs. search)
+    (λ c κs. search)
+    (λ c κs. search)
+    (λ c. search)
+    (λ c κs. search)
+    (λ c κs. search)
+    (λ c. search)
+    (λ c κs. search)
+    (λ c. search)
+    (λ c κs. search)
+    (λ c κs. search)
+    (λ c. search)
+    (λ c κs. search)
+    (λ c κs. cc)
+    (λ c. search)
+    (λ c κs. search)
+    (λ c. keeps (returns c))
+    returns)

@@ -1,5 +1,4 @@
 use mathlib.Core.Path.{refl}
-use Rattle.text.proofs.Laws.{keeps}
 use mathlib.Core.Bool.{true, false}
 use Rattle.text.proofs.Laws.{nothing}
 use Rattle.text.proofs.Laws.{by-test}
@@ -14,6 +13,6 @@ put-sprite-spec =
     (tie.spec
     (λ c. refl)
     (λ c κs. tt)
-    (λ c. keeps (c .before .before .put .ensures))
+    (λ c. cc)
     (λ c. by-test spriteText (c .before .before .before .before .before .before .before .args .sprite) true (c .before .before .before .before .before .if1 .taken) sprites (c .before .before .put .ensures))
     (λ c. by-test spriteText (c .before .before .args .sprite) false (c .if1 .left) no-sprites (nothing _ _)))

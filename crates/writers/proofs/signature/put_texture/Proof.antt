@@ -1,6 +1,6 @@
 use mathlib.Core.Path.{refl}
 use native.Mathlib.Omega.{arith}
-use Rattle.text.proofs.Laws.{keeps, same}
+use Rattle.text.proofs.Laws.{same}
 use Rattle.writers.proofs.signature.put_texture.Statement.{statement}
 use Rattle.writers.proofs.signature.put_texture.Tie as tie
 
@@ -10,21 +10,21 @@ put-texture-spec =
     (tie.spec
     (λ c. c .match .keys1)
     (λ c. refl)
-    (λ c κs. omega (arith, c .before .before .before .before .before .pre))
+    (λ c κs. omega arith)
     (λ c. c .match .keys2)
     (λ c. refl)
-    (λ c κs. omega (arith, c .before .before .before .before .before .pre))
+    (λ c κs. omega arith)
     (λ c. c .match .keys3)
     (λ c. refl)
-    (λ c κs. omega (arith, c .before .before .before .before .before .pre))
+    (λ c κs. omega arith)
     (λ c. c .match .keys4)
     (λ c. refl)
-    (λ c κs. omega (arith, c .before .before .before .before .before .pre))
-    (λ c. keeps (c .before .before .put-numbered .ensures))
+    (λ c κs. omega arith)
+    (λ c. cc)
     (λ c. rw (c .before .before .before .before .before .enum-told .given .1) (same refl (c .before .before .put-numbered .ensures)))
-    (λ c. keeps (c .before .before .put-numbered2 .ensures))
+    (λ c. cc)
     (λ c. rw (c .before .before .before .before .before .enum-told2 .given .1) (same refl (c .before .before .put-numbered2 .ensures)))
-    (λ c. keeps (c .before .before .put-numbered3 .ensures))
+    (λ c. cc)
     (λ c. rw (c .before .before .before .before .before .enum-told3 .given .1) (same refl (c .before .before .put-numbered3 .ensures)))
-    (λ c. keeps (c .before .before .put-numbered4 .ensures))
+    (λ c. cc)
     (λ c. rw (c .before .before .before .before .before .enum-told4 .given .1) (same refl (c .before .before .put-numbered4 .ensures))))
