@@ -10,7 +10,7 @@ use lib.Dec.{eqb}
 use lib.ListN.{length, take, drop, getD, drop-of-length-le}
 use lib.Seq.{drop-cons, getD-take, length-take-le}
 use Rattle.cascade.specs.Keys.{active, activeCount}
-use Rattle.cascade.specs.declared.Stage.{Stage}
+use Rattle.values.specs.declared.Stage.{Stage}
 
 module _ (b : Bool) (s : Stage) (r : List Stage) (n : ℕ) where
   cond-take : active r ≡ take n r → cond b [] (s ∷ active r) ≡ take (cond b 0 (suc n)) (s ∷ r)

@@ -9,8 +9,8 @@ use Rattle.combiners.specs.Codes.{blendFactorAlpha, constant, factor, temp}
 use Rattle.cascade.specs.Keys.{selects, reads, namesFactor, readsConstant}
 use Rattle.cascade.specs.Reading.{keeps, readsTemp}
 use Rattle.cascade.specs.Warnings.{either, unknownModifier, unknownSelector, warns}
-use Rattle.cascade.specs.declared.Combiner.{Combiner}
-use Rattle.cascade.specs.declared.Stage.{Stage}
+use Rattle.values.specs.declared.Combiner.{Combiner}
+use Rattle.values.specs.declared.Stage.{Stage}
 use Rattle.cascade.proofs.Guards.{and-false}
 
 both : (a b : Bool) → (a && b) ≡ true → (a ≡ true) × (b ≡ true)

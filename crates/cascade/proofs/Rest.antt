@@ -13,7 +13,7 @@ use Rattle.cascade.specs.Keys.{textured, active, activeCount, bump, mask
 use Rattle.cascade.specs.Reading.{live, lined, marked, readsTexel, readsBumpEnv}
 use Rattle.cascade.specs.Warnings.{anyWarns, stageWarnings}
 use Rattle.cascade.specs.Survey.{marksOf, factsOf, addFact, markedBy, marksFrom, addMark, surveyOf}
-use Rattle.cascade.specs.declared.Stage.{Stage}
+use Rattle.values.specs.declared.Stage.{Stage}
 use Rattle.cascade.specs.declared.Facts.{Facts}
 use Rattle.cascade.specs.declared.Marks.{Marks}
 use Rattle.cascade.proofs.Active.{active-take, count-le, here, past}

@@ -4,8 +4,8 @@ use mathlib.Core.Bool.{Bool, false, not, _&&_, _||_, cond}
 use mathlib.Core.List.{List, [], _∷_}
 use lib.Dec.{eqb}
 use Rattle.combiners.specs.Codes.{bit, selector, disable, selectArg1, selectArg2, blendFactorAlpha, bumpEnvMap, bumpEnvMapLuminance, dotProduct3, texture, factor, constant}
-use Rattle.cascade.specs.declared.Combiner.{Combiner}
-use Rattle.cascade.specs.declared.Stage.{Stage}
+use Rattle.values.specs.declared.Combiner.{Combiner}
+use Rattle.values.specs.declared.Stage.{Stage}
 
 -- 01: "Flag bit 0: a texture is bound; bit 1: the result goes to TEMP."
 abbrev pub textured : Stage → Bool

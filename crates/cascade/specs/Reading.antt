@@ -7,8 +7,8 @@ use lib.Dec.{eqb}
 use Rattle.combiners.specs.Codes.{disable, bumpEnvMapLuminance, texture, temp}
 use Rattle.combiners.specs.Combiners.{keepsFirst, keepsSecond, readsOwnTexel}
 use Rattle.cascade.specs.Keys.{textured, toTemp, selects, fallsBack, isBumpOp, bump, alphaFromColour}
-use Rattle.cascade.specs.declared.Combiner.{Combiner}
-use Rattle.cascade.specs.declared.Stage.{Stage}
+use Rattle.values.specs.declared.Combiner.{Combiner}
+use Rattle.values.specs.declared.Stage.{Stage}
 
 -- the op keeps an argument that selects k
 unfoldable pub keeps : ℕ → Bool → Combiner → Bool

@@ -15,8 +15,8 @@ use Rattle.combiners.specs.declared.Source.the-variants.{Current}
 use Rattle.combiners.specs.declared.Op.the-variants.{SelectArg1}
 use Rattle.combiners.specs.declared.Expression.{Expression}
 use Rattle.cascade.specs.Keys.{textured, isBumpOp, fallsBack, bump, alphaFromColour}
-use Rattle.cascade.specs.declared.Combiner.{Combiner}
-use Rattle.cascade.specs.declared.Stage.{Stage}
+use Rattle.values.specs.declared.Combiner.{Combiner}
+use Rattle.values.specs.declared.Stage.{Stage}
 use Rattle.cascade.specs.declared.Alpha.{Alpha}
 use Rattle.cascade.specs.declared.Alpha.the-variants.{FromColour, Kept, Written}
 use Rattle.cascade.specs.declared.Decoded.{Decoded}

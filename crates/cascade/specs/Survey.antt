@@ -6,7 +6,7 @@ use lib.Dec.{eqb}
 use Rattle.cascade.specs.Keys.{textured, active, activeCount, bump, maskOf, readsConstant, namesFactor, lastConstant, anyFactor, rowsOf}
 use Rattle.cascade.specs.Reading.{readsTemp, readsTexel, live, lined, marked, luminance, readsBumpEnv}
 use Rattle.cascade.specs.Warnings.{withoutText, unknownSelector, unknownModifier, either, warns, anyWarns, stageWarnings}
-use Rattle.cascade.specs.declared.Stage.{Stage}
+use Rattle.values.specs.declared.Stage.{Stage}
 use Rattle.cascade.specs.declared.Facts.{Facts}
 use Rattle.cascade.specs.declared.Marks.{Marks}
 use Rattle.cascade.specs.declared.Survey.{Survey}

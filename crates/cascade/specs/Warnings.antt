@@ -9,8 +9,8 @@ use Rattle.combiners.specs.Codes.{selector}
 use Rattle.combiners.specs.Combiners.{hasText}
 use Rattle.cascade.specs.Keys.{textured, fallsBack, bump}
 use Rattle.cascade.specs.Reading.{alphaWritten}
-use Rattle.cascade.specs.declared.Combiner.{Combiner}
-use Rattle.cascade.specs.declared.Stage.{Stage}
+use Rattle.values.specs.declared.Combiner.{Combiner}
+use Rattle.values.specs.declared.Stage.{Stage}
 
 abbrev pub withoutText : Combiner → Bool
 withoutText c = not (hasText (c .op))

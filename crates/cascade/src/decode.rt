@@ -1,9 +1,7 @@
 //! A stage decoded: its expressions, or that it is a bump stage.
 use crate::Alpha;
-use crate::Combiner;
 use crate::Decoded;
 use crate::Expressions;
-use crate::Stage;
 use crate::keys::alpha_from_colour;
 use crate::keys::falls_back;
 use crate::keys::is_bump;
@@ -15,6 +13,8 @@ use combiners::Op;
 use combiners::Source;
 use combiners::arguments::arg_of;
 use combiners::ops::op_of;
+use values::Combiner;
+use values::Stage;
 ghost use mathlib.Core.Path.{_≡_};
 ghost use Rattle.cascade.specs.Stages.{fallback, combined, expressionOf, alphaOf, decode};
 

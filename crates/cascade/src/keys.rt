@@ -1,9 +1,9 @@
 //! What a stage and its combiners say by themselves: textures, reads, fallback, bump, constants; and the count of active stages.
 //!
 //! Most arguments select neither the constant nor TEMP, so each rule asks for that first.
-use crate::Combiner;
-use crate::Key;
-use crate::Stage;
+use values::Combiner;
+use values::Key;
+use values::Stage;
 ghost use mathlib.Core.Path.{_≡_};
 ghost use Rattle.cascade.specs.Keys.{textured, toTemp, activeCount, reads, fallsBack, isBumpOp, bump, alphaFromColour, readsConstant, namesFactor, selects};
 

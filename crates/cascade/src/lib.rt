@@ -7,27 +7,6 @@ pub mod walks;
 
 use combiners::Expression;
 
-// An op and its two arguments, in Direct3D 9's codes.
-pub struct Combiner {
-    pub op: u8,
-    pub arg1: u8,
-    pub arg2: u8,
-}
-
-// A texture stage: seven bytes. Flag bit 0: a texture is bound; bit 1: the result goes to TEMP.
-pub struct Stage {
-    pub colour: Combiner,
-    pub alpha: Combiner,
-    pub flags: u8,
-}
-
-// Bit i of projected is for stage i.
-pub struct Key {
-    pub stages: [Stage; 8],
-    pub specular_add: bool,
-    pub projected: u8,
-}
-
 // Where a stage's alpha comes from.
 pub enum Alpha {
     FromColour,

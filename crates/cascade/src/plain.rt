@@ -1,5 +1,5 @@
 //! Plain stages: most name neither a constant, nor the factor, nor TEMP, and no selector or modifier that warns.
-use crate::Stage;
+use values::Stage;
 ghost use mathlib.Core.Path.{_≡_};
 ghost use mathlib.Core.Bool.{true, false, _||_};
 ghost use lib.Dec.{eqb};

@@ -1,12 +1,12 @@
 //! The reading rule: what the expressions of a stage read, by its key alone.
-use crate::Combiner;
-use crate::Stage;
 use crate::keys::alpha_from_colour;
 use crate::keys::falls_back;
 use crate::keys::is_bump_op;
 use crate::keys::selects;
 use crate::keys::textured;
 use crate::keys::to_temp;
+use values::Combiner;
+use values::Stage;
 ghost use mathlib.Core.Path.{_≡_};
 ghost use Rattle.combiners.specs.Combiners.{hasText, keepsFirst, keepsSecond};
 ghost use Rattle.cascade.specs.Reading.{keeps, readsTempBy, readsTexelBy, alphaWritten, readsTemp, readsTexel, lined, luminance};

@@ -1,9 +1,6 @@
 //! What a key says before any byte of text. Each walk goes from the last active stage to the first, as the rules speak of the stages behind one.
-use crate::Combiner;
 use crate::Facts;
-use crate::Key;
 use crate::Marks;
-use crate::Stage;
 use crate::Survey;
 use crate::keys::active_count;
 use crate::keys::falls_back;
@@ -18,6 +15,9 @@ use crate::reading::is_lined;
 use crate::reading::is_luminance;
 use crate::reading::reads_temp;
 use crate::reading::reads_texel;
+use values::Combiner;
+use values::Key;
+use values::Stage;
 ghost use Prim.Native.Nat.{_<_, _≤_, _+_};
 ghost use mathlib.Core.Path.{_≡_};
 ghost use mathlib.Core.Bool.{cond};

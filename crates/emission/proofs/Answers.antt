@@ -18,16 +18,17 @@ use Rattle.cascade.specs.Keys.{active}
 use Rattle.cascade.specs.Reading.{lookupsOf}
 use Rattle.cascade.specs.Warnings.{withoutText, unknownSelector, unknownModifier, either, anyWarns, stageWarnings}
 use Rattle.cascade.specs.Survey.{surveyOf}
-use Rattle.cascade.specs.declared.Stage.{Stage}
-use Rattle.cascade.specs.declared.Key.{Key}
+use Rattle.values.specs.declared.Stage.{Stage}
+use Rattle.values.specs.declared.Key.{Key}
 use Rattle.cascade.specs.declared.Survey.{Survey}
-use Rattle.metal.specs.Whole.{wholeText}
-use Rattle.metal.specs.Results.{entryGood, textOf, emittedOf}
-use Rattle.metal.specs.Demand.{Demand3}
-use Rattle.metal.specs.declared.Variant.{Variant}
-use Rattle.metal.specs.declared.Entry.{Entry}
-use Rattle.metal.specs.declared.Emitted.{Emitted}
-use Rattle.metal.proofs.Names.Whole.{demand}
+use Rattle.shader.specs.Whole.{wholeText}
+use Rattle.values.specs.Entries.{entryGood}
+use Rattle.shader.specs.Results.{textOf, emittedOf}
+use Rattle.shader.specs.Demand.{Demand3}
+use Rattle.values.specs.declared.Variant.{Variant}
+use Rattle.values.specs.declared.Entry.{Entry}
+use Rattle.values.specs.declared.Emitted.{Emitted}
+use Rattle.shader.proofs.Names.Whole.{demand}
 
 warnings-le : (a b c : Bool) → cond a 1 0 + cond b 2 0 + cond c 4 0 ≤ 7
 warnings-le true true true = omega arith

@@ -1,17 +1,17 @@
 //! Emission from values: a key, a variant and an entry to Metal text in a lent buffer.
-pub use cascade::Combiner;
-pub use cascade::Key;
-pub use cascade::Stage;
 use cascade::Survey;
 use cascade::walks::survey;
-pub use metal::Answer;
-pub use metal::Emitted;
-pub use metal::Entry;
-pub use metal::Refusal;
-pub use metal::Variant;
+use function::Place;
+use function::put_whole;
 use text::put;
-use whole::Place;
-use whole::put_whole;
+pub use values::Answer;
+pub use values::Combiner;
+pub use values::Emitted;
+pub use values::Entry;
+pub use values::Key;
+pub use values::Refusal;
+pub use values::Stage;
+pub use values::Variant;
 ghost use Prim.Native.Nat.{_≤_, _+_};
 ghost use mathlib.Core.Path.{_≡_};
 ghost use mathlib.Core.Bool.{cond};
@@ -21,8 +21,8 @@ ghost use lib.ListN.{length, drop};
 ghost use Rattle.cascade.specs.Keys.{active};
 ghost use Rattle.cascade.specs.Reading.{lookupsOf};
 ghost use Rattle.cascade.specs.Survey.{surveyOf};
-ghost use Rattle.metal.specs.Results.{answerOf, bufferAfter, frontOf, textOf};
-ghost use Rattle.metal.specs.Demand.{Demanded};
+ghost use Rattle.shader.specs.Results.{answerOf, bufferAfter, frontOf, textOf};
+ghost use Rattle.shader.specs.Demand.{Demanded};
 
 // An alpha function above 8 warns too.
 fn warning_of(stages: u8, alpha_func: u8) -> u8
@@ -60,19 +60,19 @@ pub fn emit(key: Key, variant: Variant, entry: Entry, out: &mut [u8]) -> Answer
     ensures buffer { λ r. ⌜ now (out .exit) ≡ bufferAfter r (textOf key variant entry) (now (out .entry)) ⌝ }
     ensures names { λ r. ⌜ Demanded r (now (out .exit)) ⌝ }
 {
-    if checks::stage_flags_bad(key) {
+    if admission::stage_flags_bad(key) {
         return Answer::Refused(Refusal::StageFlags);
     }
-    if checks::variant_flags_bad(variant) {
+    if admission::variant_flags_bad(variant) {
         return Answer::Refused(Refusal::VariantFlags);
     }
-    if !checks::entry_good(entry) {
+    if !admission::entry_good(entry) {
         return Answer::Refused(Refusal::EntryName);
     }
     let u = survey(key);
     let written = put_text(out, key, variant, entry, u);
     if out.len() < written.at {
-        return Answer::Refused(Refusal::TextTooLong);
+        return Answer::Refused(Refusal::NoRoom);
     }
     let warning = warning_of(u.warning, variant.alpha_func);
     Answer::Text(Emitted {

@@ -7,10 +7,10 @@ use Rattle.text.specs.Text.{Text, lit, pick, flat, _⊕_}
 use Rattle.text.specs.Buffer.{Wrote}
 use Rattle.text.proofs.Laws.{same}
 use Rattle.cascade.specs.Keys.{bump}
-use Rattle.cascade.specs.declared.Stage.{Stage}
-use Rattle.metal.specs.Lookups.{beforeOf}
-use Rattle.metal.specs.Order.{Precedes}
-use Rattle.metal.specs.declared.Before.the-variants.{Ordinary, Displacing}
+use Rattle.values.specs.declared.Stage.{Stage}
+use Rattle.shader.specs.Lookups.{beforeOf}
+use Rattle.shader.specs.Order.{Precedes}
+use Rattle.shader.specs.declared.Before.the-variants.{Ordinary, Displacing}
 
 -- two components or three, the dot in front of them
 pub dotted : (three : Bool) → flat (pick three (lit ".xyz") (lit ".xy")) ≡ flat (lit "." ⊕ pick three (lit "xyz") (lit "xy"))

@@ -6,9 +6,9 @@ use mathlib.Core.List.{List, _++_, append-assoc}
 use Rattle.text.specs.Text.{Text, bytes, lit, pick, when, flat, _⊕_}
 use Rattle.text.specs.Marks.{numbered}
 use Rattle.combiners.specs.Arguments.{texelName}
-use Rattle.metal.specs.Lookups.{textureName, samplerName, coordinateText, lodRow, bumpRow, levelText, quotientText, uvText, halfTexelText, gatherText, depthText, compareText, plainText, texelLine, projectedLine, lookupText, dividedLine, offsetText, movedText, displacedLine, luminanceLine}
-use Rattle.metal.specs.declared.Coordinate.{Coordinate}
-use Rattle.metal.specs.declared.Lookup.the-variants.{DepthFetch, Plain}
+use Rattle.shader.specs.Lookups.{textureName, samplerName, coordinateText, lodRow, bumpRow, levelText, quotientText, uvText, halfTexelText, gatherText, depthText, compareText, plainText, texelLine, projectedLine, lookupText, dividedLine, offsetText, movedText, displacedLine, luminanceLine}
+use Rattle.shader.specs.declared.Coordinate.{Coordinate}
+use Rattle.shader.specs.declared.Lookup.the-variants.{DepthFetch, Plain}
 
 -- templates in one another, as bytes: the end of the outer one goes to the end
 two-ended : (u b d e : List ℕ) → (u ++ (b ++ d)) ++ e ≡ u ++ (b ++ (d ++ e))

@@ -1,9 +1,9 @@
 //! Bump stages: the coordinate that one displaces, the texel that one scales, and all that a lookup behind one writes.
 use crate::coordinates::put_coordinate;
 use crate::lookup::put_lookup;
-use metal::Before;
-use metal::Coordinate;
-use metal::Lookup;
+use shader::Before;
+use shader::Coordinate;
+use shader::Lookup;
 use text::put;
 use text::put_decimal;
 use text::put_numbered;
@@ -13,8 +13,8 @@ ghost use Rattle.text.specs.Text.{lit, pick, when, _⊕_};
 ghost use Rattle.text.specs.Marks.{numbered};
 ghost use Rattle.text.specs.Buffer.{Wrote};
 ghost use Rattle.combiners.specs.Arguments.{texelName};
-ghost use Rattle.metal.specs.Lookups.{coordinateText, bumpRow, lookupText, dividedLine, movedText, displacedLine, displacementText, luminanceLine, sampleText};
-ghost use Rattle.metal.specs.Order.{Precedes};
+ghost use Rattle.shader.specs.Lookups.{coordinateText, bumpRow, lookupText, dividedLine, movedText, displacedLine, displacementText, luminanceLine, sampleText};
+ghost use Rattle.shader.specs.Order.{Precedes};
 
 fn put_bump_row(out: &mut [u8], at: usize, k: u8) -> usize
     ensures { λ r. ⌜ Wrote (now (out .entry)) at (now (out .exit)) r (bumpRow k) ⌝ }

@@ -1,12 +1,12 @@
 //! The coordinates of a stage, and where a lookup reads.
-use metal::Coordinate;
+use shader::Coordinate;
 use text::put;
 use text::put_either;
 use text::put_numbered;
 ghost use Prim.Native.Nat.{_<_};
 ghost use Rattle.text.specs.Text.{lit, pick, _⊕_};
 ghost use Rattle.text.specs.Buffer.{Wrote};
-ghost use Rattle.metal.specs.Lookups.{coordinateText, quotientText, uvText};
+ghost use Rattle.shader.specs.Lookups.{coordinateText, quotientText, uvText};
 
 pub(crate) fn put_coordinate(out: &mut [u8], at: usize, i: u8, c: Coordinate) -> usize
     requires { ⌜ i < 8 ⌝ }

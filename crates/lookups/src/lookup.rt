@@ -4,11 +4,11 @@ use crate::samples::put_depth_line;
 use crate::samples::put_gather_line;
 use crate::samples::put_plain_line;
 use crate::samples::put_projected_line;
-use metal::Coordinate;
-use metal::Lookup;
+use shader::Coordinate;
+use shader::Lookup;
 ghost use Prim.Native.Nat.{_<_};
 ghost use Rattle.text.specs.Buffer.{Wrote};
-ghost use Rattle.metal.specs.Lookups.{lookupText};
+ghost use Rattle.shader.specs.Lookups.{lookupText};
 
 fn put_comparison_lines(
     out: &mut [u8],

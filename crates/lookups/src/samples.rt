@@ -2,8 +2,8 @@
 use crate::coordinates::put_coordinate;
 use crate::coordinates::put_tested_quotient;
 use crate::coordinates::put_uv;
-use metal::Coordinate;
-use metal::Lookup;
+use shader::Coordinate;
+use shader::Lookup;
 use text::put;
 use text::put_either;
 use text::put_numbered;
@@ -11,7 +11,7 @@ use text::put_when;
 ghost use Prim.Native.Nat.{_<_};
 ghost use Rattle.text.specs.Text.{lit, when, _⊕_};
 ghost use Rattle.text.specs.Buffer.{Wrote};
-ghost use Rattle.metal.specs.Lookups.{coordinateText, lodRow, levelText, gatherText, compareText, texelLine, projectedLine, lookupText};
+ghost use Rattle.shader.specs.Lookups.{coordinateText, lodRow, levelText, gatherText, compareText, texelLine, projectedLine, lookupText};
 
 fn put_level(out: &mut [u8], at: usize, lod: bool, i: u8) -> usize
     requires { ⌜ i < 8 ⌝ }

@@ -3,13 +3,13 @@ use Prim.Native.Nat.{ℕ, _≤_}
 use mathlib.Core.Path.{_≡_, sym, ap, _∙_}
 use mathlib.Core.List.{List}
 use native.Mathlib.Omega.{arith}
-use Rattle.records.specs.Reading.{readRecord}
-use Rattle.records.specs.Refusals.{numberOf}
-use Rattle.records.specs.declared.Reading.{Reading}
-use Rattle.records.specs.declared.Refusal.{Refusal}
-use Rattle.records.specs.declared.ReadAnswer.the-variants.{Took, Refused}
-use Rattle.records.proofs.Laws.{body-short}
-use Rattle.records.proofs.RoundTrips.{Bytes, read-rewrites}
+use Rattle.wire.specs.Reading.{readRecord}
+use Rattle.values.specs.Refusals.{numberOf}
+use Rattle.wire.specs.declared.Reading.{Reading}
+use Rattle.values.specs.declared.Refusal.{Refusal}
+use Rattle.wire.specs.declared.ReadAnswer.the-variants.{Took, Refused}
+use Rattle.wire.proofs.Laws.{body-short}
+use Rattle.wire.proofs.RoundTrips.{Bytes, read-rewrites}
 use Rattle.parts.specs.Packed.{packedRecord, packedReading}
 
 module _ (b : List ℕ) {r : Reading} where

@@ -6,21 +6,21 @@ use mathlib.Core.List.{List, _++_}
 use native.Mathlib.Omega.{arith}
 use lib.Dec.{ltb}
 use lib.ListN.{length, take, drop}
-use Rattle.records.specs.Bodies.{recordLength, recordBytes}
-use Rattle.records.specs.Reading.{readRecord}
-use Rattle.records.specs.Refusals.{numberOf}
-use Rattle.records.specs.Writing.{checked, writeChecked, writeAnswer, bufferAfter}
-use Rattle.records.specs.declared.Kind.{Kind}
-use Rattle.records.specs.declared.Reading.{Reading}
-use Rattle.records.specs.declared.Refusal.{Refusal}
-use Rattle.records.specs.declared.Refusal.the-variants.{NoRoom}
-use Rattle.records.specs.declared.Checked.{Checked}
-use Rattle.records.specs.declared.Checked.the-variants.{Good, Bad}
-use Rattle.records.specs.declared.ReadAnswer.the-variants as read
-use Rattle.records.specs.declared.WriteAnswer.{WriteAnswer}
-use Rattle.records.specs.declared.WriteAnswer.the-variants.{Wrote, Refused}
-use Rattle.records.proofs.Laws.{body-short}
-use Rattle.records.proofs.RoundTrips.{Bytes, read-writes}
+use Rattle.wire.specs.Bodies.{recordLength, recordBytes}
+use Rattle.wire.specs.Reading.{readRecord}
+use Rattle.values.specs.Refusals.{numberOf}
+use Rattle.wire.specs.Writing.{checked, writeChecked, writeAnswer, bufferAfter}
+use Rattle.wire.specs.declared.Kind.{Kind}
+use Rattle.wire.specs.declared.Reading.{Reading}
+use Rattle.values.specs.declared.Refusal.{Refusal}
+use Rattle.values.specs.declared.Refusal.the-variants.{NoRoom}
+use Rattle.wire.specs.declared.Checked.{Checked}
+use Rattle.wire.specs.declared.Checked.the-variants.{Good, Bad}
+use Rattle.wire.specs.declared.ReadAnswer.the-variants as read
+use Rattle.wire.specs.declared.WriteAnswer.{WriteAnswer}
+use Rattle.wire.specs.declared.WriteAnswer.the-variants.{Wrote, Refused}
+use Rattle.wire.proofs.Laws.{body-short}
+use Rattle.wire.proofs.RoundTrips.{Bytes, read-writes}
 use Rattle.parts.specs.Packed.{packedReading, packedWritten}
 use Rattle.parts.specs.Writing.{written, writtenBuffer}
 

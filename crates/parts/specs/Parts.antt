@@ -4,13 +4,13 @@ use mathlib.Core.Bool.{cond}
 use mathlib.Core.List.{List}
 use lib.Dec.{eqb}
 use lib.ListN.{length, getD}
-use Rattle.cascade.specs.declared.Key.{Key}
-use Rattle.metal.specs.declared.Variant.{Variant}
-use Rattle.metal.specs.declared.Entry.{Entry}
-use Rattle.records.specs.Reading.{readRecord}
-use Rattle.records.specs.Refusals.{numberOf}
-use Rattle.records.specs.declared.ReadAnswer.{ReadAnswer}
-use Rattle.records.specs.declared.ReadAnswer.the-variants.{Took, Refused}
+use Rattle.values.specs.declared.Key.{Key}
+use Rattle.values.specs.declared.Variant.{Variant}
+use Rattle.values.specs.declared.Entry.{Entry}
+use Rattle.wire.specs.Reading.{readRecord}
+use Rattle.values.specs.Refusals.{numberOf}
+use Rattle.wire.specs.declared.ReadAnswer.{ReadAnswer}
+use Rattle.wire.specs.declared.ReadAnswer.the-variants.{Took, Refused}
 
 -- 01's number of the reader's refusal, 0 for none
 abbrev pub readNumber : ReadAnswer → ℕ

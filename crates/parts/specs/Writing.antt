@@ -2,14 +2,14 @@
 use Prim.Native.Nat.{ℕ}
 use mathlib.Core.List.{List}
 use lib.ListN.{length}
-use Rattle.records.specs.Bodies.{recordBytes}
-use Rattle.records.specs.Reading.{readRecord}
-use Rattle.records.specs.Writing.{writeAnswer, bufferAfter}
-use Rattle.records.specs.declared.Record.{Record}
-use Rattle.records.specs.declared.ReadAnswer.{ReadAnswer}
-use Rattle.records.specs.declared.ReadAnswer.the-variants.{Took, Refused}
-use Rattle.records.specs.declared.WriteAnswer.{WriteAnswer}
-use Rattle.records.specs.declared.WriteAnswer.the-variants as write
+use Rattle.wire.specs.Bodies.{recordBytes}
+use Rattle.wire.specs.Reading.{readRecord}
+use Rattle.wire.specs.Writing.{writeAnswer, bufferAfter}
+use Rattle.wire.specs.declared.Record.{Record}
+use Rattle.wire.specs.declared.ReadAnswer.{ReadAnswer}
+use Rattle.wire.specs.declared.ReadAnswer.the-variants.{Took, Refused}
+use Rattle.wire.specs.declared.WriteAnswer.{WriteAnswer}
+use Rattle.wire.specs.declared.WriteAnswer.the-variants as write
 use Rattle.parts.specs.Packed.{packedWritten}
 
 -- the reader's refusal, or the writer's answer

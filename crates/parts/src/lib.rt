@@ -2,12 +2,12 @@
 pub mod read;
 pub mod write;
 
-use records::ReadAnswer;
-use records::Refusal;
-use records::number;
+use values::Refusal;
+use values::number;
+use wire::ReadAnswer;
 ghost use mathlib.Core.Path.{_≡_};
 ghost use Rattle.parts.specs.Parts.{numberBy, readNumber};
-ghost use Rattle.records.specs.Refusals.{numberOf};
+ghost use Rattle.values.specs.Refusals.{numberOf};
 
 // 01's number of a refusal.
 pub fn number_of(cause: Refusal) -> u64

@@ -1,12 +1,12 @@
 //! The record at the front of lent bytes.
 use crate::number_of;
-use records::Kind;
-use records::ReadAnswer;
-use records::reader::read;
+use wire::Kind;
+use wire::ReadAnswer;
+use wire::reader::read;
 ghost use Prim.Native.Nat.{_≤_};
 ghost use mathlib.Core.Path.{_≡_};
-ghost use Rattle.records.specs.Bodies.{kindByte};
-ghost use Rattle.records.specs.Reading.{readRecord};
+ghost use Rattle.wire.specs.Bodies.{kindByte};
+ghost use Rattle.wire.specs.Reading.{readRecord};
 ghost use Rattle.parts.specs.Packed.{packedRecord, packedReading};
 
 // 01's byte of a kind.

@@ -1,10 +1,10 @@
 //! A record written again, by value, to the front of a lent buffer.
 use crate::number_of;
 use crate::read::pack_record;
-use records::ReadAnswer;
-use records::WriteAnswer;
-use records::reader::read;
-use records::writer::write;
+use wire::ReadAnswer;
+use wire::WriteAnswer;
+use wire::reader::read;
+use wire::writer::write;
 ghost use mathlib.Core.Path.{_≡_};
 ghost use lib.ListN.{length};
 ghost use Rattle.parts.specs.Writing.{written, writtenBuffer};

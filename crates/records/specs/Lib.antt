@@ -1,5 +1,1 @@
-pub mod Refusals
-pub mod Bodies
-pub mod Values
-pub mod Reading
-pub mod Writing
+pub mod Applying

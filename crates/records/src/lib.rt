@@ -1,100 +1,158 @@
-//! Records: the bytes of keys, variants, entries and emit requests, read and written.
-pub use cascade::Combiner;
-pub use cascade::Key;
-pub use cascade::Stage;
-pub use metal::Entry;
-pub use metal::Variant;
-
-pub mod make;
-pub mod reader;
-pub mod writer;
-
+//! The held values, and the record at the front of some bytes applied to them.
+use emission::emit;
+pub use values::Combiner;
+pub use values::Emitted;
+pub use values::Entry;
+pub use values::Key;
+pub use values::Refusal;
+pub use values::Stage;
+pub use values::Variant;
+use wire::Kind;
+use wire::ReadAnswer;
+use wire::Record;
+use wire::make::blank_record;
+use wire::reader::read;
 ghost use mathlib.Core.Path.{_≡_};
-ghost use Rattle.records.specs.Refusals.{numberOf};
-ghost use Rattle.records.specs.Bodies.{bodyLength, recordLength};
+ghost use lib.ListN.{length};
+ghost use Rattle.records.specs.Applying.{Demanded, applied, applyAs, holding, holdsAll, nothingHeld, refusedWith, replacedBy, textAfter};
 
-pub enum Kind {
-    Key,
-    Variant,
-    Entry,
-    Emit,
-}
-
-// A record by value. It is the value of its kind; the others are looked at nowhere, and blank in a record that was read.
-pub struct Record {
-    pub kind: Kind,
+// The held values, each there or not.
+pub struct Held {
+    pub has_key: bool,
     pub key: Key,
+    pub has_variant: bool,
     pub variant: Variant,
+    pub has_entry: bool,
     pub entry: Entry,
 }
 
-// Why a record is refused, in the order of the numbers, 1 to 8.
-pub enum Refusal {
-    CutShort,
-    UnknownKind,
-    StageFlags,
-    SpecularAdd,
-    VariantFlags,
-    EntryName,
-    EmitTooEarly,
-    NoRoom,
-}
-
-// Whether a record's own value may be written.
-pub enum Checked {
-    Good,
-    Bad(Refusal),
-}
-
-pub enum ReadAnswer {
-    // How many bytes the record took.
-    Took(usize),
+pub enum ApplyAnswer {
+    // A value is held now. How many bytes its record took.
+    Replaced(usize),
+    // A text was written. How many bytes its record took, and what emission reports.
+    Text(usize, Emitted),
     Refused(Refusal),
 }
 
-// The record is blank where it is refused.
-pub struct Reading {
-    pub answer: ReadAnswer,
-    pub found: Record,
+pub struct Applied {
+    pub answer: ApplyAnswer,
+    pub held: Held,
 }
 
-pub enum WriteAnswer {
-    // How many bytes were written.
-    Wrote(usize),
-    Refused(Refusal),
-}
-
-// The number of a refusal.
-pub fn number(refusal: Refusal) -> u8
-    ensures { λ r. ⌜ r ≡ numberOf refusal ⌝ }
+pub fn nothing_held() -> Held
+    ensures { λ r. ⌜ r ≡ nothingHeld ⌝ }
 {
-    match refusal {
-        Refusal::CutShort => 1,
-        Refusal::UnknownKind => 2,
-        Refusal::StageFlags => 3,
-        Refusal::SpecularAdd => 4,
-        Refusal::VariantFlags => 5,
-        Refusal::EntryName => 6,
-        Refusal::EmitTooEarly => 7,
-        Refusal::NoRoom => 8,
+    let none = blank_record(Kind::Emit);
+    let key = none.key;
+    let variant = none.variant;
+    let entry = none.entry;
+    Held {
+        has_key: false,
+        key: key,
+        has_variant: false,
+        variant: variant,
+        has_entry: false,
+        entry: entry,
     }
 }
 
-// The length of a kind's body.
-pub fn body_length(kind: Kind) -> usize
-    ensures { λ r. ⌜ r ≡ bodyLength kind ⌝ }
+// What is held once the record's value is.
+fn hold_key(found: Record, held: Held) -> Held
+    ensures { λ r. ⌜ r ≡ holding Kind.Key found held ⌝ }
 {
-    match kind {
-        Kind::Key => 58,
-        Kind::Variant => 19,
-        Kind::Entry => 33,
-        Kind::Emit => 0,
+    let key = found.key;
+    let mut after = held;
+    after.has_key = true;
+    after.key = key;
+    after
+}
+
+fn hold_variant(found: Record, held: Held) -> Held
+    ensures { λ r. ⌜ r ≡ holding Kind.Variant found held ⌝ }
+{
+    let variant = found.variant;
+    let mut after = held;
+    after.has_variant = true;
+    after.variant = variant;
+    after
+}
+
+fn hold_entry(found: Record, held: Held) -> Held
+    ensures { λ r. ⌜ r ≡ holding Kind.Entry found held ⌝ }
+{
+    let entry = found.entry;
+    let mut after = held;
+    after.has_entry = true;
+    after.entry = entry;
+    after
+}
+
+fn replaced(n: usize, after: Held) -> Applied
+    ensures { λ r. ⌜ r ≡ replacedBy n after ⌝ }
+{
+    Applied {
+        answer: ApplyAnswer::Replaced(n),
+        held: after,
     }
 }
 
-// The kind byte and the body.
-pub fn record_length(kind: Kind) -> usize
-    ensures { λ r. ⌜ r ≡ recordLength kind ⌝ }
+// A refusal leaves what is held.
+fn refused(refusal: Refusal, kept: Held) -> Applied
+    ensures { λ r. ⌜ r ≡ refusedWith refusal kept ⌝ }
 {
-    1 + body_length(kind)
+    Applied {
+        answer: ApplyAnswer::Refused(refusal),
+        held: kept,
+    }
+}
+
+fn holds_all(held: Held) -> bool
+    ensures { λ r. ⌜ r ≡ holdsAll held ⌝ }
+{
+    held.has_key & (held.has_variant & held.has_entry)
+}
+
+// An emit record that took n bytes. A refusal leaves text as it was.
+pub fn emit_held(held: Held, n: usize, text: &mut [u8]) -> ApplyAnswer
+    ensures answer { λ r. ⌜ r ≡ applyAs Kind.Emit n held (length (now (text .entry))) ⌝ }
+    ensures buffer { λ r. ⌜ now (text .exit) ≡ textAfter r held (now (text .entry)) ⌝ }
+    ensures names { λ r. ⌜ Demanded r (now (text .exit)) ⌝ }
+{
+    let key = held.key;
+    let variant = held.variant;
+    let entry = held.entry;
+    if !holds_all(held) {
+        return ApplyAnswer::Refused(Refusal::EmitTooEarly);
+    }
+    match emit(key, variant, entry, text) {
+        emission::Answer::Text(emitted) => ApplyAnswer::Text(n, emitted),
+        emission::Answer::Refused(refusal) => ApplyAnswer::Refused(refusal),
+    }
+}
+
+// Reads the record at the front of the bytes and applies it to what is held. A refusal leaves what is held and text as they were.
+pub fn apply(held: Held, bytes: &[u8], text: &mut [u8]) -> Applied
+    ensures answer { λ r. ⌜ r ≡ applied held (now (bytes .entry)) (length (now (text .entry))) ⌝ }
+    ensures buffer { λ r. ⌜ now (text .exit) ≡ textAfter (r .answer) held (now (text .entry)) ⌝ }
+    ensures names { λ r. ⌜ Demanded (r .answer) (now (text .exit)) ⌝ }
+{
+    let reading = read(bytes);
+    let answer = reading.answer;
+    let found = reading.found;
+    let kind = found.kind;
+    match answer {
+        ReadAnswer::Refused(refusal) => refused(refusal, held),
+        ReadAnswer::Took(n) => match kind {
+            Kind::Key => replaced(n, hold_key(found, held)),
+            Kind::Variant => replaced(n, hold_variant(found, held)),
+            Kind::Entry => replaced(n, hold_entry(found, held)),
+            Kind::Emit => {
+                let emitted = emit_held(held, n, text);
+                Applied {
+                    answer: emitted,
+                    held: held,
+                }
+            }
+        },
+    }
 }

@@ -1,8 +1,8 @@
 //! Replays the list of the Rust's answers, and prints which cases differ, and how many.
 use libc::STDOUT_FILENO;
-use session::Session;
-use session::begin;
-use session::step;
+use printout::Session;
+use printout::begin;
+use printout::step;
 ghost use Prim.Native.Nat.{_+_, _≤_, _<_};
 ghost use mathlib.Core.Path.{_≡_};
 ghost use mathlib.Core.Bool.{true};

@@ -12,23 +12,23 @@ use mir.Syntax.{w64}
 use mir.Val.{Fits}
 use lib.ListN.{length, take}
 use lib.Seq.{sets}
-use Rattle.metal.specs.Results.{answerOf}
-use Rattle.metal.specs.declared.Answer.{Answer}
-use Rattle.metal.specs.declared.Answer.the-variants as emission-answer
-use Rattle.held.specs.Applying.{holdsAll, emissionAnswer, applyAs, applyRead, applyAnswer, textAfter}
-use Rattle.records.specs.Bodies.{kindByte, recordLength}
-use Rattle.records.specs.Reading.{readRecord}
-use Rattle.records.specs.declared.Kind.{Kind}
-use Rattle.records.specs.declared.Kind.the-variants as kind
-use Rattle.records.proofs.Kind.{the-type}
-use Rattle.records.specs.declared.Refusal.{Refusal}
-use Rattle.records.specs.declared.Refusal.the-variants.{EmitTooEarly}
-use Rattle.records.specs.declared.Reading.{Reading}
-use Rattle.records.specs.declared.ReadAnswer.the-variants as read
-use Rattle.held.specs.declared.Held.{Held}
-use Rattle.held.specs.declared.ApplyAnswer.{ApplyAnswer}
-use Rattle.held.specs.declared.ApplyAnswer.the-variants.{Replaced, Text, Refused}
-use Rattle.records.proofs.RoundTrips.{Bytes}
+use Rattle.shader.specs.Results.{answerOf}
+use Rattle.values.specs.declared.Answer.{Answer}
+use Rattle.values.specs.declared.Answer.the-variants as emission-answer
+use Rattle.records.specs.Applying.{holdsAll, emissionAnswer, applyAs, applyRead, applyAnswer, textAfter}
+use Rattle.wire.specs.Bodies.{kindByte, recordLength}
+use Rattle.wire.specs.Reading.{readRecord}
+use Rattle.wire.specs.declared.Kind.{Kind}
+use Rattle.wire.specs.declared.Kind.the-variants as kind
+use Rattle.wire.proofs.Kind.{the-type}
+use Rattle.values.specs.declared.Refusal.{Refusal}
+use Rattle.values.specs.declared.Refusal.the-variants.{EmitTooEarly}
+use Rattle.wire.specs.declared.Reading.{Reading}
+use Rattle.wire.specs.declared.ReadAnswer.the-variants as read
+use Rattle.records.specs.declared.Held.{Held}
+use Rattle.records.specs.declared.ApplyAnswer.{ApplyAnswer}
+use Rattle.records.specs.declared.ApplyAnswer.the-variants.{Replaced, Text, Refused}
+use Rattle.wire.proofs.RoundTrips.{Bytes}
 use Rattle.parts.specs.Parts.{keyNumber, variantNumber, entryNumber}
 use Rattle.service.specs.Applying.{keyPart, variantPart, entryPart, heldOf, answerTo, placeOf, replacedBytes, heldAfter}
 use Rattle.service.specs.Packed.{packedApplied}

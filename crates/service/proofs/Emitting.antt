@@ -7,17 +7,19 @@ use native.Mathlib.Omega.{arith}
 use borrow.Author.Tests.{lt-ltb, le-ltb}
 use lib.Dec.{ltb}
 use lib.ListN.{length}
-use Rattle.cascade.specs.declared.Key.{Key}
-use Rattle.metal.specs.Results.{stageFlagsBad, variantFlagsBad, entryGood, emittedOf, textOf, answerOf, bufferAfter}
-use Rattle.metal.specs.declared.Variant.{Variant}
-use Rattle.metal.specs.declared.Entry.{Entry}
-use Rattle.metal.specs.declared.Emitted.{Emitted}
-use Rattle.metal.specs.declared.Refusal.the-variants.{StageFlags, VariantFlags, EntryName, TextTooLong}
-use Rattle.metal.specs.declared.Answer.{Answer}
-use Rattle.metal.specs.declared.Answer.the-variants.{Text, Refused}
-use Rattle.metal.proofs.Length.{at-most}
-use Rattle.records.specs.Reading.{readRecord}
-use Rattle.records.specs.declared.Reading.{Reading}
+use Rattle.values.specs.declared.Key.{Key}
+use Rattle.values.specs.Flags.{stageFlagsBad, variantFlagsBad}
+use Rattle.values.specs.Entries.{entryGood}
+use Rattle.shader.specs.Results.{emittedOf, textOf, answerOf, bufferAfter}
+use Rattle.values.specs.declared.Variant.{Variant}
+use Rattle.values.specs.declared.Entry.{Entry}
+use Rattle.values.specs.declared.Emitted.{Emitted}
+use Rattle.values.specs.declared.Refusal.the-variants.{StageFlags, VariantFlags, EntryName, NoRoom}
+use Rattle.values.specs.declared.Answer.{Answer}
+use Rattle.values.specs.declared.Answer.the-variants.{Text, Refused}
+use Rattle.shader.proofs.Length.{at-most}
+use Rattle.wire.specs.Reading.{readRecord}
+use Rattle.wire.specs.declared.Reading.{Reading}
 use Rattle.parts.specs.Parts.{numberBy, partNumber, keyNumber, variantNumber, entryNumber}
 use Rattle.service.specs.Emitting.{partsNumber, emitted, emittedBuffer}
 use Rattle.service.specs.Packed.{packed}
@@ -28,7 +30,7 @@ lengthIn (Text m) = m .length
 lengthIn (Refused c) = 0
 
 length-picked : (a b c d : Bool) (m : Emitted) → m .length ≤ 16384
-    → lengthIn (cond a (Refused StageFlags) (cond b (Refused VariantFlags) (cond c (Refused EntryName) (cond d (Refused TextTooLong) (Text m))))) ≤ 16384
+    → lengthIn (cond a (Refused StageFlags) (cond b (Refused VariantFlags) (cond c (Refused EntryName) (cond d (Refused NoRoom) (Text m))))) ≤ 16384
 length-picked true b c d m h = omega arith
 length-picked false true c d m h = omega arith
 length-picked false false true d m h = omega arith

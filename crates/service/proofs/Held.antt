@@ -8,26 +8,28 @@ use borrow.Author.Tests.{eq-eqb, ne-eqb, ltb-false}
 use lib.Dec.{eqb, ltb}
 use lib.ListN.{length, take, drop, getD, set, length-drop}
 use lib.Seq.{sets, sets-eq, length-sets, length-take-le, take-add, take-set-le, drop-set-lt, drop-at, take-at, getD-take}
-use Rattle.metal.specs.Results.{stageFlagsBad, variantFlagsBad, entryGood, answerOf}
-use Rattle.metal.specs.declared.Variant.{Variant}
-use Rattle.metal.specs.declared.Answer.{Answer}
-use Rattle.metal.specs.declared.Answer.the-variants as emission-answer
-use Rattle.held.specs.Applying.{holdsAll, holding, emissionAnswer, applyAs, applyRead, applied}
-use Rattle.held.specs.Applying as values
-use Rattle.records.specs.Bodies.{kindByte, bodyLength, recordLength, stagesOf, keyOf, variantOf, entryOf, Shaped}
-use Rattle.records.specs.Reading.{refused, took, readBody, readAs, readNamed, readRecord}
-use Rattle.records.specs.Values.{blank, keyRecord, variantRecord, entryRecord, own, ownAs}
-use Rattle.records.specs.declared.Kind.{Kind}
-use Rattle.records.specs.declared.Kind.the-variants as kind
-use Rattle.records.specs.declared.Record.{Record}
-use Rattle.records.specs.declared.Reading.{Reading}
-use Rattle.records.specs.declared.Refusal.the-variants.{CutShort, UnknownKind, StageFlags, SpecularAdd, VariantFlags, EntryName, EmitTooEarly}
-use Rattle.records.specs.declared.ReadAnswer.{ReadAnswer}
-use Rattle.records.specs.declared.ReadAnswer.the-variants as read
-use Rattle.held.specs.declared.Held.{Held}
-use Rattle.held.specs.declared.ApplyAnswer.{ApplyAnswer}
-use Rattle.held.specs.declared.ApplyAnswer.the-variants.{Text, Refused}
-use Rattle.records.proofs.RoundTrips.{Bytes, Rewrites, read-rewrites, written-reads}
+use Rattle.values.specs.Flags.{stageFlagsBad, variantFlagsBad}
+use Rattle.values.specs.Entries.{entryGood}
+use Rattle.shader.specs.Results.{answerOf}
+use Rattle.values.specs.declared.Variant.{Variant}
+use Rattle.values.specs.declared.Answer.{Answer}
+use Rattle.values.specs.declared.Answer.the-variants as emission-answer
+use Rattle.records.specs.Applying.{holdsAll, holding, emissionAnswer, applyAs, applyRead, applied}
+use Rattle.records.specs.Applying as values
+use Rattle.wire.specs.Bodies.{kindByte, bodyLength, recordLength, stagesOf, keyOf, variantOf, entryOf, Shaped}
+use Rattle.wire.specs.Reading.{refused, took, readBody, readAs, readNamed, readRecord}
+use Rattle.wire.specs.Values.{blank, keyRecord, variantRecord, entryRecord, own, ownAs}
+use Rattle.wire.specs.declared.Kind.{Kind}
+use Rattle.wire.specs.declared.Kind.the-variants as kind
+use Rattle.wire.specs.declared.Record.{Record}
+use Rattle.wire.specs.declared.Reading.{Reading}
+use Rattle.values.specs.declared.Refusal.the-variants.{CutShort, UnknownKind, StageFlags, SpecularAdd, VariantFlags, EntryName, EmitTooEarly}
+use Rattle.wire.specs.declared.ReadAnswer.{ReadAnswer}
+use Rattle.wire.specs.declared.ReadAnswer.the-variants as read
+use Rattle.records.specs.declared.Held.{Held}
+use Rattle.records.specs.declared.ApplyAnswer.{ApplyAnswer}
+use Rattle.records.specs.declared.ApplyAnswer.the-variants.{Text, Refused}
+use Rattle.wire.proofs.RoundTrips.{Bytes, Rewrites, read-rewrites, written-reads}
 use Rattle.parts.specs.Parts.{numberBy, partNumber, keyNumber, variantNumber, entryNumber, keyIn, variantIn, entryIn}
 use Rattle.service.specs.Applying.{keyPart, variantPart, entryPart, heldOf, answerTo, placeOf, heldAfter}
 

@@ -5,11 +5,11 @@ use mathlib.Core.List.{List}
 use lib.Dec.{eqb}
 use lib.ListN.{length, take, drop, getD}
 use lib.Seq.{sets}
-use Rattle.held.specs.Applying.{applyAnswer}
-use Rattle.held.specs.declared.Held.{Held}
-use Rattle.records.specs.declared.Refusal.the-variants.{CutShort}
-use Rattle.held.specs.declared.ApplyAnswer.{ApplyAnswer}
-use Rattle.held.specs.declared.ApplyAnswer.the-variants.{Replaced, Text, Refused}
+use Rattle.records.specs.Applying.{applyAnswer}
+use Rattle.records.specs.declared.Held.{Held}
+use Rattle.values.specs.declared.Refusal.the-variants.{CutShort}
+use Rattle.records.specs.declared.ApplyAnswer.{ApplyAnswer}
+use Rattle.records.specs.declared.ApplyAnswer.the-variants.{Replaced, Text, Refused}
 use Rattle.parts.specs.Parts.{keyNumber, variantNumber, entryNumber, keyIn, variantIn, entryIn}
 
 -- 59 bytes, 20 and 34, one behind another

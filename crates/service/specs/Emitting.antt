@@ -4,7 +4,7 @@ use mathlib.Core.Bool.{cond}
 use mathlib.Core.List.{List}
 use lib.Dec.{ltb}
 use lib.ListN.{length}
-use Rattle.metal.specs.Results.{answerOf, bufferAfter, textOf}
+use Rattle.shader.specs.Results.{answerOf, bufferAfter, textOf}
 use Rattle.parts.specs.Parts.{keyNumber, variantNumber, entryNumber, keyIn, variantIn, entryIn}
 use Rattle.service.specs.Packed.{packed}
 

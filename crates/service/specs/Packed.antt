@@ -1,13 +1,12 @@
 -- How an answer of emission is packed into a number, as those on records are (`parts/specs/Packed`): 01's number of the refusal in bits 0 to 7, and the
 -- other bits 0 with a refusal.
 use Prim.Native.Nat.{ℕ, _+_, _*_}
-use Rattle.metal.specs.Results.{refusalNumber}
-use Rattle.metal.specs.declared.Emitted.{Emitted}
-use Rattle.metal.specs.declared.Answer.{Answer}
-use Rattle.metal.specs.declared.Answer.the-variants as answer
-use Rattle.records.specs.Refusals.{numberOf}
-use Rattle.held.specs.declared.ApplyAnswer.{ApplyAnswer}
-use Rattle.held.specs.declared.ApplyAnswer.the-variants as apply
+use Rattle.values.specs.declared.Emitted.{Emitted}
+use Rattle.values.specs.declared.Answer.{Answer}
+use Rattle.values.specs.declared.Answer.the-variants as answer
+use Rattle.values.specs.Refusals.{numberOf}
+use Rattle.records.specs.declared.ApplyAnswer.{ApplyAnswer}
+use Rattle.records.specs.declared.ApplyAnswer.the-variants as apply
 
 -- mask, rows, lookups and warning have 8 bits each, from bit 8 on, and the length those from bit 40 on
 abbrev pub packedText : Emitted → ℕ
@@ -16,7 +15,7 @@ packedText m = 256 * m .mask + 65536 * m .rows + 16777216 * m .lookups + 4294967
 -- emission's answer
 unfoldable pub packed : Answer → ℕ
 packed (answer.Text m) = packedText m
-packed (answer.Refused c) = refusalNumber c
+packed (answer.Refused c) = numberOf c
 
 -- The answer to a record that is applied. Its bytes are counted in bits 56 to 63; for an emit record emission's results stand below them, where a
 -- text's length has the bits 40 to 55: none is above 16,384.

@@ -1,20 +1,20 @@
 //! A record applied to the held key, variant and entry, whose records the caller keeps.
 use crate::pack;
-use held::ApplyAnswer;
-use held::Held;
-use held::emit_held;
 use parts::number_of;
 use parts::part_number;
-use records::Kind;
-use records::ReadAnswer;
-use records::reader::read;
+use records::ApplyAnswer;
+use records::Held;
+use records::emit_held;
 use text::put;
+use wire::Kind;
+use wire::ReadAnswer;
+use wire::reader::read;
 ghost use Prim.Native.Nat.{_+_, _*_, _≤_};
 ghost use mathlib.Core.Path.{_≡_};
 ghost use lib.ListN.{length, take};
 ghost use lib.Seq.{sets};
-ghost use Rattle.held.specs.Applying.{applyAs, textAfter};
-ghost use Rattle.records.specs.Bodies.{kindByte};
+ghost use Rattle.records.specs.Applying.{applyAs, textAfter};
+ghost use Rattle.wire.specs.Bodies.{kindByte};
 ghost use Rattle.service.specs.Applying.{answerTo, heldAfter, heldOf, placeOf};
 ghost use Rattle.service.specs.Packed.{packedApplied};
 

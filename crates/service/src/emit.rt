@@ -1,30 +1,18 @@
 //! Emission from the records of a key, a variant and an entry.
 use crate::pack;
 use emission::Answer;
-use emission::Refusal;
 use emission::emit;
+use parts::number_of;
 use parts::part_number;
-use records::Entry;
-use records::Key;
-use records::Variant;
-use records::reader::read;
+use values::Entry;
+use values::Key;
+use values::Variant;
+use wire::reader::read;
 ghost use mathlib.Core.Path.{_≡_};
 ghost use lib.ListN.{length};
-ghost use Rattle.metal.specs.Results.{answerOf, bufferAfter, refusalNumber, textOf};
+ghost use Rattle.shader.specs.Results.{answerOf, bufferAfter, textOf};
 ghost use Rattle.service.specs.Emitting.{emitted, emittedBuffer};
 ghost use Rattle.service.specs.Packed.{packed};
-
-// 01's number of emission's refusal.
-fn refusal_number(refusal: Refusal) -> u64
-    ensures { λ r. ⌜ r ≡ refusalNumber refusal ⌝ }
-{
-    match refusal {
-        Refusal::StageFlags => 3,
-        Refusal::VariantFlags => 5,
-        Refusal::EntryName => 6,
-        Refusal::TextTooLong => 8,
-    }
-}
 
 // Emission from values, its answer packed.
 fn emit_values(key: Key, variant: Variant, entry: Entry, out: &mut [u8]) -> u64
@@ -34,7 +22,7 @@ fn emit_values(key: Key, variant: Variant, entry: Entry, out: &mut [u8]) -> u64
     let answer = emit(key, variant, entry, out);
     match answer {
         Answer::Text(m) => pack(m),
-        Answer::Refused(cause) => refusal_number(cause),
+        Answer::Refused(cause) => number_of(cause),
     }
 }
 

@@ -10,7 +10,7 @@ ghost use mathlib.Core.Path.{_≡_};
 ghost use lib.ListN.{length};
 ghost use Rattle.parts.specs.Packed.{packedReading};
 ghost use Rattle.parts.specs.Writing.{written, writtenBuffer};
-ghost use Rattle.records.specs.Reading.{readRecord};
+ghost use Rattle.wire.specs.Reading.{readRecord};
 ghost use Rattle.service.specs.Packed.{packedText};
 
 // What the record at the front of bytes is.

@@ -13,7 +13,7 @@ use lib.ListN.{length, drop, getD, set, length-append}
 use lib.Seq.{sets, sets-eq}
 use Rattle.text.specs.Text.{Text, raw, _⊕_, pick, flat, size}
 use Rattle.text.specs.Marks.{filled, marked}
-use Rattle.text.specs.Buffer.{Wrote}
+use Rattle.text.specs.Buffer.{Placed, Wrote}
 
 pub flat-length : (t : Text) → length (flat t) ≡ size t
 flat-length (raw x) = refl
@@ -86,27 +86,25 @@ whole {l} {t = t} w h = w .fits (omega arith) .0 ∙ sets-eq (flat t) l 0 (omega
 pub same : {l l′ : List ℕ} {a a′ : ℕ} {s t : Text} → flat s ≡ flat t → Wrote l a l′ a′ s → Wrote l a l′ a′ t
 same e w = record { kept = w .kept; fits = rw e at (w .fits); over = rw e at (w .over) }
 
--- the bytes of a text before others, so that texts put together alike compute alike
-abbrev pub onto : Text → List ℕ → List ℕ
-onto (raw x) r = x ++ r
-onto (s ⊕ t) r = onto s (onto t r)
-onto (pick b s t) r = cond b (onto s r) (onto t r)
-
-onto-flat : (t : Text) (r : List ℕ) → onto t r ≡ flat t ++ r
-onto-flat (raw x) r = refl
-onto-flat (s ⊕ t) r = onto-flat s (onto t r) ∙ rw (onto-flat t r) (sym (append-assoc (flat s) (flat t) r))
-onto-flat (pick true s t) r = onto-flat s r
-onto-flat (pick false s t) r = onto-flat t r
-
-pub alike : {l l′ : List ℕ} {a a′ : ℕ} {s t : Text} → ((r : List ℕ) → onto s r ≡ onto t r) → Wrote l a l′ a′ s → Wrote l a l′ a′ t
-alike {s = s} {t} e w = same (sym (append-nil (flat s)) ∙ sym (onto-flat s []) ∙ e [] ∙ onto-flat t [] ∙ append-nil (flat t)) w
-
 -- which of two texts
 pub pick-true : {l l′ : List ℕ} {a a′ : ℕ} {b : Bool} {s t : Text} → b ≡ true → Wrote l a l′ a′ s → Wrote l a l′ a′ (pick b s t)
 pick-true e w = rw e (record { kept = w .kept; fits = w .fits; over = w .over })
 
 pub pick-false : {l l′ : List ℕ} {a a′ : ℕ} {b : Bool} {s t : Text} → b ≡ false → Wrote l a l′ a′ t → Wrote l a l′ a′ (pick b s t)
 pick-false e w = rw e (record { kept = w .kept; fits = w .fits; over = w .over })
+
+-- one piece of the same bytes; which of two pieces; no piece at all
+pub same-piece : {l l′ : List ℕ} {a a′ : ℕ} {s t : Text} → flat s ≡ flat t → Placed l a l′ a′ s → Placed l a l′ a′ t
+same-piece e w = record { written = same e (w .written); left = rw e at (w .left) }
+
+pub first-piece : {l l′ : List ℕ} {a a′ : ℕ} {b : Bool} {s t : Text} → b ≡ true → Placed l a l′ a′ s → Placed l a l′ a′ (pick b s t)
+first-piece e w = rw e (record { written = pick-true refl (w .written); left = w .left })
+
+pub second-piece : {l l′ : List ℕ} {a a′ : ℕ} {b : Bool} {s t : Text} → b ≡ false → Placed l a l′ a′ t → Placed l a l′ a′ (pick b s t)
+second-piece e w = rw e (record { written = pick-false refl (w .written); left = w .left })
+
+pub no-piece : (l : List ℕ) (at : ℕ) → Placed l at l at (raw [])
+no-piece l at = record { written = nothing l at; left = λ h. refl }
 
 -- a text that depends on a test
 pub by-test : {l l′ : List ℕ} {a a′ : ℕ} {s : Text} (t : Bool → Text) (b c : Bool) → b ≡ c → flat s ≡ flat (t c) → Wrote l a l′ a′ s → Wrote l a l′ a′ (t b)

@@ -13,3 +13,8 @@ pub record Wrote (l : List ℕ) (at : ℕ) (l′ : List ℕ) (at′ : ℕ) (t : 
   pub kept : length l′ ≡ length l
   pub fits : at + length (flat t) ≤ length l → (l′ ≡ sets l at (flat t)) × (at′ ≡ at + length (flat t))
   pub over : length l < at + length (flat t) → length l < at′
+
+-- The same of a text that is written as a whole or not at all: where it does not fit, the buffer is left.
+pub record Placed (l : List ℕ) (at : ℕ) (l′ : List ℕ) (at′ : ℕ) (t : Text) : Type 0 where
+  pub written : Wrote l at l′ at′ t
+  pub left : length l < at + length (flat t) → l′ ≡ l

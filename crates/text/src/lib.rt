@@ -8,7 +8,7 @@ ghost use lib.ListN.{length};
 ghost use lib.Seq.{sets};
 ghost use Rattle.text.specs.Text.{raw, pick, when, digit, decimal};
 ghost use Rattle.text.specs.Marks.{filled, marked, numbered};
-ghost use Rattle.text.specs.Buffer.{Wrote};
+ghost use Rattle.text.specs.Buffer.{Placed, Wrote};
 
 // A byte of a text, or the mark where it is `#`.
 fn filled(mark: u8, b: u8) -> u8
@@ -34,7 +34,7 @@ fn copy(out: &mut [u8], at: usize, s: &[u8], mark: u8)
 
 // One test before the copy and none in it: where s is a literal, its length is known and the copy is a few stores of constants.
 fn put_marked(out: &mut [u8], at: usize, s: &[u8], mark: u8) -> usize
-    ensures { λ r. ⌜ Wrote (now (out .entry)) at (now (out .exit)) r (raw (marked mark (now (s .entry)))) ⌝ }
+    ensures { λ r. ⌜ Placed (now (out .entry)) at (now (out .exit)) r (raw (marked mark (now (s .entry)))) ⌝ }
 {
     if out.len() < s.len() {
         return 18446744073709551615;
@@ -47,7 +47,7 @@ fn put_marked(out: &mut [u8], at: usize, s: &[u8], mark: u8) -> usize
 }
 
 pub fn put(out: &mut [u8], at: usize, s: &[u8]) -> usize
-    ensures { λ r. ⌜ Wrote (now (out .entry)) at (now (out .exit)) r (raw (now (s .entry))) ⌝ }
+    ensures { λ r. ⌜ Placed (now (out .entry)) at (now (out .exit)) r (raw (now (s .entry))) ⌝ }
 {
     put_marked(out, at, s, b'#')
 }
@@ -55,14 +55,14 @@ pub fn put(out: &mut [u8], at: usize, s: &[u8]) -> usize
 // The bytes of s, with the digit n for each `#`.
 pub fn put_numbered(out: &mut [u8], at: usize, s: &[u8], n: u8) -> usize
     requires { ⌜ n < 10 ⌝ }
-    ensures { λ r. ⌜ Wrote (now (out .entry)) at (now (out .exit)) r (numbered n (now (s .entry))) ⌝ }
+    ensures { λ r. ⌜ Placed (now (out .entry)) at (now (out .exit)) r (numbered n (now (s .entry))) ⌝ }
 {
     put_marked(out, at, s, 48 + n)
 }
 
 // One of two.
 pub fn put_either(out: &mut [u8], at: usize, first: bool, s: &[u8], t: &[u8]) -> usize
-    ensures { λ r. ⌜ Wrote (now (out .entry)) at (now (out .exit)) r (pick first (raw (now (s .entry))) (raw (now (t .entry)))) ⌝ }
+    ensures { λ r. ⌜ Placed (now (out .entry)) at (now (out .exit)) r (pick first (raw (now (s .entry))) (raw (now (t .entry)))) ⌝ }
 {
     if first {
         put(out, at, s)
@@ -73,7 +73,7 @@ pub fn put_either(out: &mut [u8], at: usize, first: bool, s: &[u8], t: &[u8]) ->
 
 // Nothing, if the test fails.
 pub fn put_when(out: &mut [u8], at: usize, there: bool, s: &[u8]) -> usize
-    ensures { λ r. ⌜ Wrote (now (out .entry)) at (now (out .exit)) r (when there (raw (now (s .entry)))) ⌝ }
+    ensures { λ r. ⌜ Placed (now (out .entry)) at (now (out .exit)) r (when there (raw (now (s .entry)))) ⌝ }
 {
     if there {
         return put(out, at, s);
@@ -83,7 +83,7 @@ pub fn put_when(out: &mut [u8], at: usize, there: bool, s: &[u8]) -> usize
 
 pub fn put_digit(out: &mut [u8], at: usize, n: u8) -> usize
     requires { ⌜ n < 10 ⌝ }
-    ensures { λ r. ⌜ Wrote (now (out .entry)) at (now (out .exit)) r (digit n) ⌝ }
+    ensures { λ r. ⌜ Placed (now (out .entry)) at (now (out .exit)) r (digit n) ⌝ }
 {
     let b = [48 + n];
     put(out, at, &b)

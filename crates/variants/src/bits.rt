@@ -1,9 +1,9 @@
 //! The bits of masks and flags.
-use metal::Variant;
+use values::Variant;
 ghost use Prim.Native.Nat.{_<_};
 ghost use mathlib.Core.Path.{_≡_};
 ghost use Rattle.combiners.specs.Codes.{bit};
-ghost use Rattle.metal.specs.Output.{flatShade, srgbWrite, sampleMask, pointSprite, lodBias, fogSourceW, fogged, tested};
+ghost use Rattle.shader.specs.Output.{flatShade, srgbWrite, sampleMask, pointSprite, lodBias, fogSourceW, fogged, tested};
 
 // Bit i of m.
 pub fn bit(m: u16, i: u8) -> bool

@@ -1,11 +1,11 @@
 //! How a stage reads its texture, and the texture's type.
 use crate::bits::bit;
-use metal::Lookup;
-use metal::TextureType;
-use metal::Variant;
+use shader::Lookup;
+use shader::TextureType;
+use values::Variant;
 ghost use Prim.Native.Nat.{_<_};
 ghost use mathlib.Core.Path.{_≡_};
-ghost use Rattle.metal.specs.Lookups.{lookupOf, textureTypeOf};
+ghost use Rattle.shader.specs.Lookups.{lookupOf, textureTypeOf};
 
 // The first that applies: fetch4, depth fetch, depth compare, plain.
 pub fn lookup_of(v: Variant, i: u8) -> Lookup

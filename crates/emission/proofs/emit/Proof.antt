@@ -5,8 +5,8 @@ use mathlib.Core.Path.{_≡_, refl, sym, ap, _∙_}
 use native.Mathlib.Omega.{arith}
 use borrow.Author.Tests.{lt-ltb, le-ltb, not-false}
 use lib.ListN.{length, length-map}
-use Rattle.metal.specs.Results.{textOf, answerOf}
-use Rattle.metal.specs.declared.Answer.the-variants.{Text}
+use Rattle.shader.specs.Results.{textOf, answerOf}
+use Rattle.values.specs.declared.Answer.the-variants.{Text}
 use Rattle.emission.proofs.Answers.{survey-warning, entry-short, laid-fits, laid-over, laid-length, accepted, demanded}
 use Rattle.emission.proofs.emit.Statement.{statement}
 use Rattle.emission.proofs.emit.Tie as tie

@@ -7,8 +7,8 @@ use borrow.Author.Needs.{needs}
 use lib.ListN.{length, length-map}
 use lib.Seq.{length-take-le}
 use Rattle.text.proofs.Laws.{keeps}
-use Rattle.metal.specs.Results.{textOf}
-use Rattle.metal.proofs.Length.{at-most}
+use Rattle.shader.specs.Results.{textOf}
+use Rattle.shader.proofs.Length.{at-most}
 use Rattle.emission.proofs.Answers.{placed, laid-whole, laid-not, laid-copy}
 use Rattle.emission.proofs.put_text.Statement.{statement}
 use Rattle.emission.proofs.put_text.Tie as tie
@@ -40,7 +40,7 @@ returns-2 c =
     let s = s1 .before .before .before .before in
     let w = s1 .put-whole2 .ensures in
     let p = placed (s .args .k) (s .args .v) (s .args .e) (w .0) (short s) in
-    (p .0, (laid-copy (textOf (s .args .k) (s .args .v) (s .args .e)) (s .args .out .now) _ _ (p .0) (p .1) (omega (arith, p .0, s2 .if2 .taken)) (s3 .put .ensures), w .1))
+    (p .0, (laid-copy (textOf (s .args .k) (s .args .v) (s .args .e)) (s .args .out .now) _ _ (p .0) (p .1) (omega (arith, p .0, s2 .if2 .taken)) (s3 .put .ensures .written), w .1))
 
 returns-3 : tie.Need-returns-3
 returns-3 c =
@@ -62,6 +62,6 @@ put-text-spec =
     (λ c. let s1 = c .before .before .before .before in let s = s1 .before .before .before .before in omega (arith, placed (s .args .k) (s .args .v) (s .args .e) (s1 .put-whole2 .ensures .0) (short s) .0, short s, keeps (s1 .put-whole2 .ensures .0)))
     (λ c. let s1 = c .before .before .before .before .before in let s = s1 .before .before .before .before in sym (length-take-le _ _ (omega (arith, placed (s .args .k) (s .args .v) (s .args .e) (s1 .put-whole2 .ensures .0) (short s) .0, short s, keeps (s1 .put-whole2 .ensures .0)))))
     (λ c κs. tt)
-    (λ c. keeps (c .before .before .put .ensures))
+    (λ c. keeps (c .before .before .put .ensures .written))
     returns-2
     returns-3)

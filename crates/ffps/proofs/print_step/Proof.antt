@@ -1,4 +1,4 @@
-use Rattle.session.proofs.Printed.{further}
+use Rattle.printout.proofs.Printed.{further}
 use Rattle.ffps.proofs.print_step.Statement.{statement}
 use Rattle.ffps.proofs.print_step.Tie as tie
 

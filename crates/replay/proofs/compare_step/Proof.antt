@@ -1,6 +1,6 @@
 use native.Mathlib.Omega.{arith}
 use borrow.Author.Tests.{not-false}
-use Rattle.session.proofs.Printed.{further}
+use Rattle.printout.proofs.Printed.{further}
 use Rattle.replay.proofs.compare_step.Statement.{statement}
 use Rattle.replay.proofs.compare_step.Tie as tie
 

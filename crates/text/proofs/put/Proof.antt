@@ -1,4 +1,4 @@
-use Rattle.text.proofs.Laws.{unmarked, same, keeps}
+use Rattle.text.proofs.Laws.{unmarked, same-piece, keeps}
 use Rattle.text.proofs.put.Statement.{statement}
 use Rattle.text.proofs.put.Tie as tie
 
@@ -7,5 +7,5 @@ put-spec =
     tie.close
     (tie.spec
     (λ c κs. tt)
-    (λ c. keeps (c .before .before .put-marked .ensures))
-    (λ c. same (unmarked _) (c .before .before .put-marked .ensures)))
+    (λ c. keeps (c .before .before .put-marked .ensures .written))
+    (λ c. same-piece (unmarked _) (c .before .before .put-marked .ensures)))

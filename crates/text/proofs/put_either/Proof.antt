@@ -1,4 +1,4 @@
-use Rattle.text.proofs.Laws.{texts}
+use Rattle.text.proofs.Laws.{first-piece, second-piece}
 use borrow.Author.Needs.{needs}
 use Rattle.text.proofs.put_either.Statement.{statement}
 use Rattle.text.proofs.put_either.Tie as tie
@@ -10,6 +10,6 @@ put-either-spec =
     (λ c κs. search needs)
     (λ c κs. search needs)
     (λ c. search needs)
-    (λ c. search (texts, c .before .before .before .before .if1 .taken, c .before .before .put .ensures))
+    (λ c. first-piece (c .before .before .before .before .if1 .taken) (c .before .before .put .ensures))
     (λ c. search needs)
-    (λ c. search (texts, c .before .before .before .before .if1 .left, c .before .before .put2 .ensures)))
+    (λ c. second-piece (c .before .before .before .before .if1 .left) (c .before .before .put2 .ensures)))

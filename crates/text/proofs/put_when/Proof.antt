@@ -1,4 +1,4 @@
-use Rattle.text.proofs.Laws.{texts, pick-false, nothing}
+use Rattle.text.proofs.Laws.{first-piece, second-piece, no-piece}
 use borrow.Author.Needs.{needs}
 use Rattle.text.proofs.put_when.Statement.{statement}
 use Rattle.text.proofs.put_when.Tie as tie
@@ -9,5 +9,5 @@ put-when-spec =
     (tie.spec
     (λ c κs. search needs)
     (λ c. search needs)
-    (λ c. search (texts, c .before .before .before .before .if1 .taken, c .before .before .put .ensures))
-    (λ c. pick-false (c .if1 .left) (nothing _ _)))
+    (λ c. first-piece (c .before .before .before .before .if1 .taken) (c .before .before .put .ensures))
+    (λ c. second-piece (c .if1 .left) (no-piece _ _)))

@@ -10,7 +10,7 @@ returns c =
     let s3 = s4 .before .before .before .before in
     let s2 = s3 .before .before .before .before .before in
     let s1 = s2 .before .before .before .before in
-    search (writing, s1 .put-either .ensures ⨾ s2 .put-expression .ensures ⨾ s3 .put .ensures ⨾ s4 .put-expression2 .ensures ⨾ s5 .put2 .ensures)
+    search (writing, s1 .put-either .ensures .written ⨾ s2 .put-expression .ensures ⨾ s3 .put .ensures .written ⨾ s4 .put-expression2 .ensures ⨾ s5 .put2 .ensures .written)
 
 pub put-written-spec : {M : Type 1} → statement M
 put-written-spec =

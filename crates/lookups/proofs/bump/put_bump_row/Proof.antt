@@ -1,7 +1,7 @@
 use Rattle.text.proofs.Laws.{texts}
 use mathlib.Core.Path.{refl}
 use borrow.Author.Needs.{needs}
-use Rattle.metal.specs.Lookups.{bumpRow}
+use Rattle.shader.specs.Lookups.{bumpRow}
 use Rattle.lookups.proofs.bump.put_bump_row.Statement.{statement}
 use Rattle.lookups.proofs.bump.put_bump_row.Tie as tie
 

@@ -25,5 +25,5 @@ put-displaced-line-spec =
     let c₄ = c₃ .before .before .before .before .before in
     let c₅ = c₄ .before .before .before .before in
     let c₆ = c₅ .before .before .before .before in
-    let a = c₆ .args in same (displaces (a .i) (a .n) (a .base)) (c₅ .put-numbered .ensures ⨾ c₄ .put-moved .ensures ⨾ c₃ .put .ensures
-    ⨾ c₂ .put-coordinate .ensures ⨾ c₁ .put2 .ensures)))
+    let a = c₆ .args in same (displaces (a .i) (a .n) (a .base)) (c₅ .put-numbered .ensures .written ⨾ c₄ .put-moved .ensures ⨾ c₃ .put .ensures .written
+    ⨾ c₂ .put-coordinate .ensures ⨾ c₁ .put2 .ensures .written)))

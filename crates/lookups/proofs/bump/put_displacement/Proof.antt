@@ -1,6 +1,6 @@
 use Rattle.text.proofs.Laws.{texts}
 use borrow.Author.Needs.{needs}
-use Rattle.metal.specs.Lookups.{displacementText}
+use Rattle.shader.specs.Lookups.{displacementText}
 use Rattle.lookups.proofs.bump.put_displacement.Statement.{statement}
 use Rattle.lookups.proofs.bump.put_displacement.Tie as tie
 

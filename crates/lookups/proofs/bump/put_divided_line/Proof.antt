@@ -12,4 +12,4 @@ put-divided-line-spec =
     (λ c. refl)
     (λ c κs. omega arith)
     (λ c. cc)
-    (λ c. same (divided (c .before .before .before .before .before .before .args .i)) (c .before .before .put-numbered .ensures)))
+    (λ c. same (divided (c .before .before .before .before .before .before .args .i)) (c .before .before .put-numbered .ensures .written)))

@@ -24,5 +24,5 @@ put-luminance-line-spec =
     let c₃ = c₂ .before .before .before .before in
     let c₄ = c₃ .before .before .before .before in
     let c₅ = c₄ .before .before .before .before in
-    let a = c₅ .args in same (lights (a .tex) (a .i) (a .n)) (c₄ .put-numbered .ensures ⨾ c₃ .put-scaled .ensures ⨾ c₂ .put-bump-row .ensures
-    ⨾ c₁ .put .ensures)))
+    let a = c₅ .args in same (lights (a .tex) (a .i) (a .n)) (c₄ .put-numbered .ensures .written ⨾ c₃ .put-scaled .ensures ⨾ c₂ .put-bump-row .ensures
+    ⨾ c₁ .put .ensures .written)))

@@ -1,6 +1,6 @@
 use Rattle.text.proofs.Laws.{_⨾_}
 use borrow.Author.Needs.{needs}
-use Rattle.metal.specs.Lookups.{sampleText}
+use Rattle.shader.specs.Lookups.{sampleText}
 use Rattle.lookups.proofs.bump.put_sample.Statement.{statement}
 use Rattle.lookups.proofs.bump.put_sample.Tie as tie
 

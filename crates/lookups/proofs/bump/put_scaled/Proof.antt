@@ -3,7 +3,7 @@ use native.Mathlib.Omega.{arith}
 use Rattle.text.proofs.Laws.{_⨾_, same}
 use Prim.Native.Nat.{_+_, _*_}
 use Rattle.text.proofs.Laws.{pick-true, pick-false, nothing}
-use Rattle.metal.specs.Lookups.{bumpRow}
+use Rattle.shader.specs.Lookups.{bumpRow}
 use Rattle.lookups.proofs.Lines.{scales}
 use Rattle.lookups.proofs.bump.put_scaled.Statement.{statement}
 use Rattle.lookups.proofs.bump.put_scaled.Tie as tie
@@ -26,6 +26,6 @@ put-scaled-spec =
     let c₃ = c₂ .before .before .before .before in
     let c₄ = c₃ .before .before .before in
     let c₅ = c₄ .before .before in
-    pick-true (c₄ .if1 .taken) (same (scales (c₅ .args .n) (bumpRow (2 * c₅ .args .n + 1))) (c₃ .put-numbered .ensures ⨾ c₂ .put-bump-row .ensures
-    ⨾ c₁ .put .ensures)))
+    pick-true (c₄ .if1 .taken) (same (scales (c₅ .args .n) (bumpRow (2 * c₅ .args .n + 1))) (c₃ .put-numbered .ensures .written ⨾ c₂ .put-bump-row .ensures
+    ⨾ c₁ .put .ensures .written)))
     (λ c. pick-false (c .if1 .left) (nothing _ _)))

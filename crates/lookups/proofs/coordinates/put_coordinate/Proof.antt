@@ -1,7 +1,7 @@
 use mathlib.Core.Path.{refl}
 use native.Mathlib.Omega.{arith}
 use Rattle.text.proofs.Laws.{same}
-use Rattle.metal.specs.Lookups.{coordinateText}
+use Rattle.shader.specs.Lookups.{coordinateText}
 use Rattle.lookups.proofs.coordinates.put_coordinate.Statement.{statement}
 use Rattle.lookups.proofs.coordinates.put_coordinate.Tie as tie
 
@@ -23,10 +23,10 @@ put-coordinate-spec =
     (λ c. refl)
     (λ c κs. omega arith)
     (λ c. cc)
-    (λ c. rw (c .before .before .before .before .before .enum-told .given .1) (same refl (c .before .before .put-numbered .ensures)))
+    (λ c. rw (c .before .before .before .before .before .enum-told .given .1) (same refl (c .before .before .put-numbered .ensures .written)))
     (λ c. cc)
-    (λ c. rw (c .before .before .before .before .before .enum-told2 .given .1) (same refl (c .before .before .put-numbered2 .ensures)))
+    (λ c. rw (c .before .before .before .before .before .enum-told2 .given .1) (same refl (c .before .before .put-numbered2 .ensures .written)))
     (λ c. cc)
-    (λ c. rw (c .before .before .before .before .before .enum-told3 .given .1) (same refl (c .before .before .put-numbered3 .ensures)))
+    (λ c. rw (c .before .before .before .before .before .enum-told3 .given .1) (same refl (c .before .before .put-numbered3 .ensures .written)))
     (λ c. cc)
-    (λ c. rw (c .before .before .before .before .before .enum-told4 .given .1) (same refl (c .before .before .put-numbered4 .ensures))))
+    (λ c. rw (c .before .before .before .before .before .enum-told4 .given .1) (same refl (c .before .before .put-numbered4 .ensures .written))))

@@ -17,4 +17,4 @@ put-swizzled-spec =
     let c₁ = c .before .before in
     let c₂ = c₁ .before .before .before .before .before .before in
     let c₃ = c₂ .before .before .before in
-    c₂ .put-coordinate .ensures ⨾ same (dotted (c₃ .args .three)) (c₁ .put-either .ensures)))
+    c₂ .put-coordinate .ensures ⨾ same (dotted (c₃ .args .three)) (c₁ .put-either .ensures .written)))

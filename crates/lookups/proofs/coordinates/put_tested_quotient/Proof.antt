@@ -1,6 +1,6 @@
 use mathlib.Core.Path.{refl}
 use Rattle.text.proofs.Laws.{_⨾_}
-use Rattle.metal.specs.Lookups.{quotientText}
+use Rattle.shader.specs.Lookups.{quotientText}
 use Rattle.lookups.proofs.Laws.{regroup}
 use Rattle.lookups.proofs.coordinates.put_tested_quotient.Statement.{statement}
 use Rattle.lookups.proofs.coordinates.put_tested_quotient.Tie as tie
@@ -27,5 +27,5 @@ put-tested-quotient-spec =
     let c₄ = c₃ .before .before .before .before .before in
     let c₅ = c₄ .before .before .before .before in
     let c₆ = c₅ .before .before .before .before .before in
-    c₆ .put-coordinate .ensures ⨾ c₅ .put .ensures ⨾ regroup (c₄ .put-swizzled .ensures ⨾ c₃ .put2 .ensures ⨾ c₂ .put-coordinate2 .ensures
-    ⨾ c₁ .put3 .ensures)))
+    c₆ .put-coordinate .ensures ⨾ c₅ .put .ensures .written ⨾ regroup (c₄ .put-swizzled .ensures ⨾ c₃ .put2 .ensures .written ⨾ c₂ .put-coordinate2 .ensures
+    ⨾ c₁ .put3 .ensures .written)))

@@ -1,6 +1,6 @@
 use Rattle.text.proofs.Laws.{texts}
 use borrow.Author.Needs.{needs}
-use Rattle.metal.specs.Lookups.{lookupText}
+use Rattle.shader.specs.Lookups.{lookupText}
 use Rattle.lookups.proofs.lookup.put_comparison_lines.Statement.{statement}
 use Rattle.lookups.proofs.lookup.put_comparison_lines.Tie as tie
 

@@ -1,5 +1,5 @@
 use borrow.Author.Needs.{needs}
-use Rattle.metal.specs.Lookups.{lookupText}
+use Rattle.shader.specs.Lookups.{lookupText}
 use Rattle.lookups.proofs.lookup.put_lookup.Statement.{statement}
 use Rattle.lookups.proofs.lookup.put_lookup.Tie as tie
 

@@ -13,5 +13,5 @@ put-bias-spec =
     (λ c. refl)
     (λ c κs. omega arith)
     (λ c. cc)
-    (λ c. pick-true (c .before .before .before .before .before .if1 .taken) (same (biased (c .before .before .before .before .before .before .before .args .i)) (c .before .before .put-numbered .ensures)))
+    (λ c. pick-true (c .before .before .before .before .before .if1 .taken) (same (biased (c .before .before .before .before .before .before .before .args .i)) (c .before .before .put-numbered .ensures .written)))
     (λ c. pick-false (c .if1 .left) (nothing _ _)))

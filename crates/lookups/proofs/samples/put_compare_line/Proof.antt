@@ -1,7 +1,7 @@
 use mathlib.Core.Path.{refl}
 use native.Mathlib.Omega.{arith}
 use Rattle.text.proofs.Laws.{_⨾_, same}
-use Rattle.metal.specs.Lookups.{coordinateText}
+use Rattle.shader.specs.Lookups.{coordinateText}
 use Rattle.lookups.proofs.Lines.{compared}
 use Rattle.lookups.proofs.samples.put_compare_line.Statement.{statement}
 use Rattle.lookups.proofs.samples.put_compare_line.Tie as tie
@@ -31,5 +31,5 @@ put-compare-line-spec =
     let c₆ = c₅ .before .before .before .before .before in
     let c₇ = c₆ .before .before .before .before in
     let c₈ = c₇ .before .before .before .before in
-    let a = c₈ .args in same (compared (a .lod) (a .i) (coordinateText (a .i) (a .c))) (c₇ .put-numbered .ensures ⨾ c₆ .put-coordinate .ensures
-    ⨾ c₅ .put .ensures ⨾ c₄ .put-coordinate2 .ensures ⨾ c₃ .put2 .ensures ⨾ c₂ .put-level .ensures ⨾ c₁ .put3 .ensures)))
+    let a = c₈ .args in same (compared (a .lod) (a .i) (coordinateText (a .i) (a .c))) (c₇ .put-numbered .ensures .written ⨾ c₆ .put-coordinate .ensures
+    ⨾ c₅ .put .ensures .written ⨾ c₄ .put-coordinate2 .ensures ⨾ c₃ .put2 .ensures .written ⨾ c₂ .put-level .ensures ⨾ c₁ .put3 .ensures .written)))

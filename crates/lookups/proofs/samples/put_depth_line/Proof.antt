@@ -26,5 +26,5 @@ put-depth-line-spec =
     let c₄ = c₃ .before .before .before .before .before in
     let c₅ = c₄ .before .before .before .before in
     let c₆ = c₅ .before .before .before .before in
-    let a = c₆ .args in same (fetched (a .red) (a .lod) (a .projected) (a .i) (a .c)) (c₅ .put-numbered .ensures ⨾ c₄ .put-uv .ensures ⨾ c₃ .put .ensures
-    ⨾ c₂ .put-level .ensures ⨾ c₁ .put-either .ensures)))
+    let a = c₆ .args in same (fetched (a .red) (a .lod) (a .projected) (a .i) (a .c)) (c₅ .put-numbered .ensures .written ⨾ c₄ .put-uv .ensures ⨾ c₃ .put .ensures .written
+    ⨾ c₂ .put-level .ensures ⨾ c₁ .put-either .ensures .written)))

@@ -1,7 +1,7 @@
 use mathlib.Core.Path.{refl}
 use native.Mathlib.Omega.{arith}
 use Rattle.text.proofs.Laws.{_⨾_, same}
-use Rattle.metal.specs.Lookups.{coordinateText}
+use Rattle.shader.specs.Lookups.{coordinateText}
 use Rattle.lookups.proofs.Lines.{gathered}
 use Rattle.lookups.proofs.samples.put_gather_line.Statement.{statement}
 use Rattle.lookups.proofs.samples.put_gather_line.Tie as tie
@@ -27,5 +27,5 @@ put-gather-line-spec =
     let c₄ = c₃ .before .before .before .before .before in
     let c₅ = c₄ .before .before .before .before in
     let c₆ = c₅ .before .before .before .before in
-    let a = c₆ .args in same (gathered (a .alpha) (a .projected) (a .i) (coordinateText (a .i) (a .c))) (c₅ .put-numbered .ensures ⨾ c₄ .put-uv .ensures
-    ⨾ c₃ .put-numbered2 .ensures ⨾ c₂ .put-when .ensures ⨾ c₁ .put .ensures)))
+    let a = c₆ .args in same (gathered (a .alpha) (a .projected) (a .i) (coordinateText (a .i) (a .c))) (c₅ .put-numbered .ensures .written ⨾ c₄ .put-uv .ensures
+    ⨾ c₃ .put-numbered2 .ensures .written ⨾ c₂ .put-when .ensures .written ⨾ c₁ .put .ensures .written)))

@@ -1,7 +1,7 @@
 use mathlib.Core.Path.{refl}
 use native.Mathlib.Omega.{arith}
 use mathlib.Core.Bool.{Bool, true, false}
-use Rattle.metal.specs.Lookups.{levelText}
+use Rattle.shader.specs.Lookups.{levelText}
 use Rattle.text.proofs.Laws.{by-test}
 use Rattle.lookups.proofs.Lines.{leveled, unleveled}
 use Rattle.lookups.proofs.samples.put_level.Statement.{statement}
@@ -16,6 +16,6 @@ put-level-spec =
     (λ c. refl)
     (λ c κs. tt)
     (λ c. cc)
-    (λ c. let a = c .before .before .before .before .before .before .before .args in by-test (λ (b : Bool). levelText b (a .i)) (a .lod) true (c .before .before .before .before .before .if1 .taken) (leveled (a .i)) (c .before .before .put-numbered .ensures))
+    (λ c. let a = c .before .before .before .before .before .before .before .args in by-test (λ (b : Bool). levelText b (a .i)) (a .lod) true (c .before .before .before .before .before .if1 .taken) (leveled (a .i)) (c .before .before .put-numbered .ensures .written))
     (λ c. cc)
-    (λ c. let a = c .before .before .before .before .before .before .before .args in by-test (λ (b : Bool). levelText b (a .i)) (a .lod) false (c .before .before .before .before .before .if1 .left) (unleveled (a .i)) (c .before .before .put .ensures)))
+    (λ c. let a = c .before .before .before .before .before .before .before .args in by-test (λ (b : Bool). levelText b (a .i)) (a .lod) false (c .before .before .before .before .before .if1 .left) (unleveled (a .i)) (c .before .before .put .ensures .written)))

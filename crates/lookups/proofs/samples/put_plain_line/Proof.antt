@@ -22,5 +22,5 @@ put-plain-line-spec =
     let c₃ = c₂ .before .before .before .before in
     let c₄ = c₃ .before .before .before .before in
     let c₅ = c₄ .before .before .before .before in
-    let a = c₅ .args in same (sampled (a .three) (a .lod) (a .projected) (a .i) (a .c)) (c₄ .put-numbered .ensures ⨾ c₃ .put-uv .ensures
-    ⨾ c₂ .put-bias .ensures ⨾ c₁ .put .ensures)))
+    let a = c₅ .args in same (sampled (a .three) (a .lod) (a .projected) (a .i) (a .c)) (c₄ .put-numbered .ensures .written ⨾ c₃ .put-uv .ensures
+    ⨾ c₂ .put-bias .ensures ⨾ c₁ .put .ensures .written)))

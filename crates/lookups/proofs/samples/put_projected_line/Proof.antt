@@ -1,7 +1,7 @@
 use mathlib.Core.Path.{refl}
 use native.Mathlib.Omega.{arith}
 use Rattle.text.proofs.Laws.{_⨾_, same}
-use Rattle.metal.specs.Lookups.{coordinateText}
+use Rattle.shader.specs.Lookups.{coordinateText}
 use Rattle.lookups.proofs.Lines.{projects}
 use Rattle.lookups.proofs.samples.put_projected_line.Statement.{statement}
 use Rattle.lookups.proofs.samples.put_projected_line.Tie as tie
@@ -21,5 +21,5 @@ put-projected-line-spec =
     let c₂ = c₁ .before .before .before .before .before in
     let c₃ = c₂ .before .before .before .before in
     let c₄ = c₃ .before .before .before .before in
-    let a = c₄ .args in same (projects (a .i) (coordinateText (a .i) (a .c))) (c₃ .put-numbered .ensures ⨾ c₂ .put-tested-quotient .ensures
-    ⨾ c₁ .put .ensures)))
+    let a = c₄ .args in same (projects (a .i) (coordinateText (a .i) (a .c))) (c₃ .put-numbered .ensures .written ⨾ c₂ .put-tested-quotient .ensures
+    ⨾ c₁ .put .ensures .written)))

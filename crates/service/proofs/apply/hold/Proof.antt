@@ -12,7 +12,7 @@ taken s = length-take-le (s .args .n) (s .args .bytes .now) (s .pre .1)
 returns : tie.Need-returns
 returns c =
     let s = c .before .before .before .before .before .before .before in
-    (refl, c .before .before .put .ensures .fits (omega (arith, taken s, s .pre .0)) .0)
+    (refl, c .before .before .put .ensures .written .fits (omega (arith, taken s, s .pre .0)) .0)
 
 pub hold-spec : {M : Type 1} → statement M
 hold-spec =
@@ -21,5 +21,5 @@ hold-spec =
     (λ c. sym (taken (c .before .before .before .before)))
     (λ c κs. tt)
     (λ c. record { fits = omega (arith, c .before .before .before .before .before .before .before .pre .2) })
-    (λ c. keeps (c .before .before .put .ensures))
+    (λ c. keeps (c .before .before .put .ensures .written))
     returns)

@@ -1,7 +1,7 @@
 -- `yuzuknoll_apply` answers 1 for held bytes of another length; otherwise it reads the record and holds its bytes, or emits.
 use mathlib.Core.Path.{refl}
 use native.Mathlib.Omega.{arith}
-use Rattle.records.proofs.RoundTrips.{Bytes}
+use Rattle.wire.proofs.RoundTrips.{Bytes}
 use Rattle.service.specs.Applying.{heldOf}
 use Rattle.service.specs.Packed.{packedApplied}
 use Rattle.service.proofs.Applying.{wrong-length, answered-refused, short, room-for, valued, answered-held, answered-emit, emit-holds-none}

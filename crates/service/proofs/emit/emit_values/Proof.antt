@@ -24,7 +24,7 @@ returns-2 : tie.Need-returns-2
 unfolding packed
 returns-2 c =
     let m = c .before .before .before .before .before .before in
-    values-answered _ _ _ (m .before .before .before .args .out .now) (m .emit .ensures .0) (c .before .before .answer2 .given .1) (c .refusal-number .ensures) (m .emit .ensures .1 .0)
+    values-answered _ _ _ (m .before .before .before .args .out .now) (m .emit .ensures .0) (c .before .before .answer2 .given .1) (c .number-of .ensures) (m .emit .ensures .1 .0)
 
 pub emit-values-spec : {M : Type 1} → statement M
 emit-values-spec =

@@ -1,6 +1,6 @@
 use mathlib.Core.Path.{sym, _∙_}
 use borrow.Author.Needs.{needs}
-use Rattle.metal.specs.Lookups.{lookupOf}
+use Rattle.shader.specs.Lookups.{lookupOf}
 use Rattle.variants.proofs.kinds.lookup_of.Statement.{statement}
 use Rattle.variants.proofs.kinds.lookup_of.Tie as tie
 

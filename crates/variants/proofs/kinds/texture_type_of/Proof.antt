@@ -1,6 +1,6 @@
 use mathlib.Core.Path.{sym, _∙_}
 use borrow.Author.Needs.{needs}
-use Rattle.metal.specs.Lookups.{textureTypeOf}
+use Rattle.shader.specs.Lookups.{textureTypeOf}
 use Rattle.variants.proofs.kinds.texture_type_of.Statement.{statement}
 use Rattle.variants.proofs.kinds.texture_type_of.Tie as tie
 

@@ -1,5 +1,0 @@
-use Rattle.checks.proofs.continues_name.Statement.{statement}
-use Rattle.checks.proofs.continues_name.Tie as tie
-
-pub continues-name-spec : {M : Type 1} → statement M
-continues-name-spec = tie.close (tie.spec (λ c κs. tt) (λ c κs. tt) (λ c. rw (c .between .ensures, c .before .starts-name .ensures)))

@@ -1,6 +1,0 @@
-use mathlib.Core.Path.{refl}
-use Rattle.checks.proofs.variant_flags_bad.Statement.{statement}
-use Rattle.checks.proofs.variant_flags_bad.Tie as tie
-
-pub variant-flags-bad-spec : {M : Type 1} → statement M
-variant-flags-bad-spec = tie.close (tie.spec (λ c. refl))

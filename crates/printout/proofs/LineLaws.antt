@@ -1,0 +1,67 @@
+-- Decimal numbers, the lines of the program, and their lengths.
+use mathlib.Core.Path.{_≡_, refl}
+use mathlib.Core.Bool.{Bool, true, false, cond}
+use mathlib.Core.List.{List, [], _∷_, _++_}
+use Prim.Native.Nat.{ℕ, zero, suc, _+_, _-_, _/_, _%_, _≤_, _<_}
+use native.Mathlib.Omega.{arith}
+use borrow.Author.Tests.{lt-ltb, le-ltb}
+use lib.Dec.{ltb}
+use lib.ListN.{length, length-append}
+use Rattle.text.specs.Text.{Text, flat, _⊕_, digit, decimalOf}
+use Rattle.text.specs.Buffer.{Wrote}
+use Rattle.text.proofs.Laws.{whole, pick-true, pick-false}
+use Rattle.values.specs.declared.Emitted.{Emitted}
+use Rattle.printout.specs.Program.{emitText, emitLine, endText, endLine, refusedText, refusedLine}
+use Rattle.printout.specs.Steps.{lineAfter}
+
+pub digits-one : {l l′ : List ℕ} {a a′ : ℕ} (d n : ℕ) → (d ≡ 0 → ⊥) → n < 10 → Wrote l a l′ a′ (digit n) → Wrote l a l′ a′ (decimalOf d n)
+unfolding decimalOf
+digits-one zero n f h w = absurd (f refl)
+digits-one (suc d) n f h w = pick-true (lt-ltb _ _ h) w
+
+pub digits-more : {l l′ : List ℕ} {a a′ : ℕ} (d n : ℕ) → (d ≡ 0 → ⊥) → 10 ≤ n → Wrote l a l′ a′ (decimalOf (d - 1) (n / 10) ⊕ digit (n % 10)) →
+    Wrote l a l′ a′ (decimalOf d n)
+unfolding decimalOf
+digits-more zero n f h w = absurd (f refl)
+digits-more (suc d) n f h w = let e : suc d - 1 ≡ d = omega arith in pick-false (le-ltb _ _ h) (rw e at w)
+
+one-more : (b : Bool) (d m k : ℕ) (x : List ℕ) → length x ≤ d → length (cond b (m ∷ []) (x ++ (k ∷ []))) ≤ suc d
+one-more true d m k x h = omega arith
+one-more false d m k x h = simp length-append (omega arith)
+
+digits-short : (d n : ℕ) → length (flat (decimalOf d n)) ≤ d
+unfolding decimalOf
+digits-short zero n = omega arith
+digits-short (suc d) n = one-more (ltb n 10) d (48 + n) (48 + n % 10) (flat (decimalOf d (n / 10))) (digits-short d (n / 10))
+
+emit-short : (e : Emitted) → length (emitLine e) ≤ 89
+unfolding emitLine
+emit-short e =
+    simp length-append (omega (arith, digits-short 20 (e .mask), digits-short 20 (e .rows), digits-short 20 (e .lookups), digits-short 20 (e .warning)))
+
+end-short : (n : ℕ) → length (endLine n) ≤ 89
+unfolding endLine
+end-short n = simp length-append (omega (arith, digits-short 20 n))
+
+refused-short : (n p : ℕ) → length (refusedLine n p) ≤ 89
+unfolding refusedLine
+refused-short n p = simp length-append (omega (arith, digits-short 20 n, digits-short 20 p))
+
+-- A line in a buffer with room for it: its length is answered, and the bytes behind it stay.
+abbrev Line : List ℕ → List ℕ → List ℕ → ℕ → Type 0
+Line line l l′ n = (n ≡ length line) × (l′ ≡ lineAfter line l)
+
+front-line : {l l′ : List ℕ} {n : ℕ} {t : Text} → Wrote l 0 l′ n t → length (flat t) ≤ 89 → length l ≡ 96 → Line (flat t) l l′ n
+front-line w s h = (omega (arith, w .fits (omega arith) .1), whole w (omega arith))
+
+pub emit-line : {l l′ : List ℕ} {n : ℕ} (e : Emitted) → Wrote l 0 l′ n (emitText e) → length l ≡ 96 → Line (emitLine e) l l′ n
+unfolding emitLine
+emit-line e w h = front-line w (emit-short e) h
+
+pub end-line : {l l′ : List ℕ} {n : ℕ} (m : ℕ) → Wrote l 0 l′ n (endText m) → length l ≡ 96 → Line (endLine m) l l′ n
+unfolding endLine
+end-line m w h = front-line w (end-short m) h
+
+pub refused-line : {l l′ : List ℕ} {n : ℕ} (m p : ℕ) → Wrote l 0 l′ n (refusedText m p) → length l ≡ 96 → Line (refusedLine m p) l l′ n
+unfolding refusedLine
+refused-line m p w h = front-line w (refused-short m p) h

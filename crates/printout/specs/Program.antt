@@ -1,0 +1,64 @@
+-- What the program prints for an input.
+use Prim.Native.Nat.{ℕ, zero, suc, _+_}
+use mathlib.Core.Bool.{cond}
+use mathlib.Core.List.{List, [], _∷_, _++_}
+use lib.Dec.{eqb, ltb}
+use lib.ListN.{length, drop}
+use Rattle.text.specs.Text.{Text, flat, decimal}
+use Rattle.text.specs.Format.{format, _≔_}
+use Rattle.shader.specs.Results.{textOf}
+use Rattle.values.specs.declared.Emitted.{Emitted}
+use Rattle.values.specs.Refusals.{numberOf}
+use Rattle.wire.specs.Reading.{refused}
+use Rattle.records.specs.Applying.{nothingHeld, applied}
+use Rattle.records.specs.declared.Held.{Held}
+use Rattle.records.specs.declared.ApplyAnswer.{ApplyAnswer}
+use Rattle.records.specs.declared.ApplyAnswer.the-variants as answer
+
+-- 01: "Program `ffps` reads standard input into a buffer of 32,768 bytes and has one of 16,384 for text."
+abbrev pub inputRoom : ℕ
+inputRoom = 32768
+
+abbrev pub textRoom : ℕ
+textRoom = 16384
+
+-- 01: "`emit` fields, decimal: mask, rows, lookups, warning."
+abbrev pub emitText : Emitted → Text
+emitText e =
+    (format "emit {mask} {rows} {lookups} {warning}\n"
+    (("mask" ≔ decimal (e .mask)) ∷ ("rows" ≔ decimal (e .rows)) ∷ ("lookups" ≔ decimal (e .lookups)) ∷ ("warning" ≔ decimal (e .warning)) ∷ []))
+
+unfoldable pub emitLine : Emitted → List ℕ
+emitLine e = flat (emitText e)
+
+-- 01: "`end` counts texts."
+abbrev pub endText : ℕ → Text
+endText n = format "end {n}\n" (("n" ≔ decimal n) ∷ [])
+
+unfoldable pub endLine : ℕ → List ℕ
+endLine n = flat (endText n)
+
+-- 01: "The program's last line is then `refused N at P`, P the offset of the kind byte, 32768 for 9; no `end`."
+abbrev pub refusedText : ℕ → ℕ → Text
+refusedText n p = format "refused {n} at {p}\n" (("n" ≔ decimal n) ∷ ("p" ≔ decimal p) ∷ [])
+
+unfoldable pub refusedLine : ℕ → ℕ → List ℕ
+refusedLine n p = flat (refusedText n p)
+
+-- what is printed for the answer to the record at offset p, h being held: go on m bytes further, with so many texts more, or stop
+unfoldable pub printed : ApplyAnswer → ℕ → Held → (ℕ → ℕ → List ℕ) → List ℕ
+printed (answer.Replaced m) p h goOn = goOn m 0
+printed (answer.Text m e) p h goOn = emitLine e ++ (textOf (h .key) (h .variant) (h .entry) ++ goOn m 1)
+printed (answer.Refused c) p h goOn = refusedLine (numberOf c) p
+
+-- What is printed for the bytes b from offset p on, behind n texts. 01: "the program stops with `end` when its input is used up." Each record
+-- takes a byte at least, so there are as many turns as bytes, or more.
+unfoldable pub printedFrom : ℕ → ℕ → ℕ → Held → List ℕ → List ℕ
+printedFrom zero p n h b = endLine n
+printedFrom (suc turns) p n h b =
+    cond (eqb (length b) 0) (endLine n)
+    (printed (applied h b textRoom .answer) p h (λ m more. printedFrom turns (p + m) (n + more) (applied h b textRoom .held) (drop m b)))
+
+-- 9: "program input above 32,768 bytes": "the line", "no record read"
+unfoldable pub programOutput : List ℕ → List ℕ
+programOutput input = cond (ltb inputRoom (length input)) (refusedLine 9 inputRoom) (printedFrom (length input) 0 0 nothingHeld input)

@@ -1,8 +1,0 @@
-use Rattle.records.proofs.reader.refuse.Statement.{statement}
-use Rattle.records.proofs.reader.refuse.Tie as tie
-
-returns : tie.Need-returns
-returns c = rw (c .blank-record .ensures)
-
-pub refuse-spec : {M : Type 1} → statement M
-refuse-spec = tie.close (tie.spec (λ c κs. tt) returns)

@@ -1,0 +1,97 @@
+-- The held key, variant and entry, and the record at the front of some bytes applied to them.
+-- 01: "7, and 8 for a text, come from the call above it that reads a record and applies it."
+use Prim.Native.Nat.{ℕ}
+use mathlib.Core.Bool.{Bool, true, false, _&&_, cond}
+use mathlib.Core.List.{List}
+use Rattle.shader.specs.Results.{textOf, answerOf}
+use Rattle.shader.specs.Results as emission
+use Rattle.shader.specs.Demand as demand
+use Rattle.values.specs.declared.Answer.{Answer}
+use Rattle.values.specs.declared.Answer.the-variants as emission-answer
+use Rattle.wire.specs.Values.{blank}
+use Rattle.wire.specs.Reading.{readRecord}
+use Rattle.wire.specs.declared.Kind.{Kind}
+use Rattle.wire.specs.declared.Kind.the-variants as kind
+use Rattle.wire.specs.declared.Record.{Record}
+use Rattle.values.specs.declared.Refusal.{Refusal}
+use Rattle.values.specs.declared.Refusal.the-variants.{EmitTooEarly}
+use Rattle.wire.specs.declared.ReadAnswer.{ReadAnswer}
+use Rattle.wire.specs.declared.ReadAnswer.the-variants as read
+use Rattle.records.specs.declared.Held.{Held}
+use Rattle.records.specs.declared.ApplyAnswer.{ApplyAnswer}
+use Rattle.records.specs.declared.ApplyAnswer.the-variants.{Replaced, Text, Refused}
+use Rattle.records.specs.declared.Applied.{Applied}
+
+unfoldable pub nothingHeld : Held
+nothingHeld =
+    record {
+      «has_key» = false;
+      key = blank kind.Emit .key;
+      «has_variant» = false;
+      variant = blank kind.Emit .variant;
+      «has_entry» = false;
+      entry = blank kind.Emit .entry;
+    }
+
+-- 7: "emit before key, variant and entry"
+abbrev pub holdsAll : Held → Bool
+holdsAll h = h .«has_key» && (h .«has_variant» && h .«has_entry»)
+
+-- what is held once a record's value is
+unfoldable pub holding : Kind → Record → Held → Held
+holding kind.Key r h =
+    record { «has_key» = true; key = r .key; «has_variant» = h .«has_variant»; variant = h .variant; «has_entry» = h .«has_entry»; entry = h .entry }
+holding kind.Variant r h =
+    record { «has_key» = h .«has_key»; key = h .key; «has_variant» = true; variant = r .variant; «has_entry» = h .«has_entry»; entry = h .entry }
+holding kind.Entry r h =
+    record { «has_key» = h .«has_key»; key = h .key; «has_variant» = h .«has_variant»; variant = h .variant; «has_entry» = true; entry = r .entry }
+holding kind.Emit r h = h
+
+-- a record that took n bytes, whose value is held now
+abbrev pub replacedBy : ℕ → Held → Applied
+replacedBy n h = record { answer = Replaced n; held = h }
+
+-- a refused record, with what is held then
+abbrev pub refusedWith : Refusal → Held → Applied
+refusedWith c h = record { answer = Refused c; held = h }
+
+-- n is how many bytes the record took
+abbrev pub emissionAnswer : ℕ → Answer → ApplyAnswer
+emissionAnswer n (emission-answer.Text e) = Text n e
+emissionAnswer n (emission-answer.Refused c) = Refused c
+
+-- 01: "The text and result of an accepted emit record are those of emission from the held key, variant and entry into the same buffer." room is
+-- the buffer's length.
+unfoldable pub applyAs : Kind → ℕ → Held → ℕ → ApplyAnswer
+applyAs kind.Key n h room = Replaced n
+applyAs kind.Variant n h room = Replaced n
+applyAs kind.Entry n h room = Replaced n
+applyAs kind.Emit n h room = cond (holdsAll h) (emissionAnswer n (answerOf (h .key) (h .variant) (h .entry) room)) (Refused EmitTooEarly)
+
+unfoldable pub applyRead : ReadAnswer → Record → Held → ℕ → ApplyAnswer
+applyRead (read.Took n) r h room = applyAs (r .kind) n h room
+applyRead (read.Refused c) r h room = Refused c
+
+abbrev pub applyAnswer : Held → List ℕ → ℕ → ApplyAnswer
+applyAnswer h b room = applyRead (readRecord b .answer) (readRecord b .found) h room
+
+-- 01: "`all` means that every lent byte and the held key, variant and entry are as before the call."
+abbrev pub heldAfter : ApplyAnswer → Record → Held → Held
+heldAfter (Replaced n) r h = holding (r .kind) r h
+heldAfter (Text n e) r h = h
+heldAfter (Refused c) r h = h
+
+abbrev pub textAfter : ApplyAnswer → Held → List ℕ → List ℕ
+textAfter (Replaced n) h out = out
+textAfter (Text n e) h out = emission.bufferAfter (emission-answer.Text e) (textOf (h .key) (h .variant) (h .entry)) out
+textAfter (Refused c) h out = out
+
+-- what applying the record at the front of b answers, and what is held then
+abbrev pub applied : Held → List ℕ → ℕ → Applied
+applied h b room = record { answer = applyAnswer h b room; held = heldAfter (applyAnswer h b room) (readRecord b .found) h }
+
+-- demand 3 of an accepted emit record, and of the bytes that the buffer then holds, is that of emission
+abbrev pub Demanded : ApplyAnswer → List ℕ → Type 0
+Demanded (Replaced n) out = Unit {0}
+Demanded (Text n e) out = demand.Demanded (emission-answer.Text e) out
+Demanded (Refused c) out = Unit {0}

@@ -1,0 +1,56 @@
+-- Demand 3: what the text of an accepted emission says of its names, and what its result says of the text.
+-- 01: "Lookups in the result are the emitter's own count, one for each lookup that it wrote." That count is `lookupsOf` (Results.antt); here it is
+-- held to the text and to the mask.
+use Prim.Native.Nat.{ℕ, zero, suc, _+_, _/_, _%_, _≤_, _<_}
+use mathlib.Core.Bool.{Bool, _&&_, cond}
+use mathlib.Core.Path.{_≡_}
+use mathlib.Core.List.{List, [], _∷_, _++_}
+use lib.Dec.{eqb}
+use lib.ListN.{take}
+use Rattle.shader.specs.Names.{Name, name, Occurrence, declaration, usage, row, occurrences}
+use Rattle.values.specs.declared.Emitted.{Emitted}
+use Rattle.values.specs.declared.Answer.{Answer}
+use Rattle.values.specs.declared.Answer.the-variants.{Text, Refused}
+
+abbrev pub sameName : Name → Name → Bool
+sameName (name k i) (name m j) = eqb k m && eqb i j
+
+-- how often a name is declared
+abbrev pub declared : Name → List Occurrence → ℕ
+declared n [] = 0
+declared n (declaration m ∷ l) = cond (sameName n m) 1 0 + declared n l
+declared n (usage m ∷ l) = declared n l
+declared n (row k ∷ l) = declared n l
+
+-- one of t0 to t7: place 15 of the list is `t`
+abbrev pub isTexel : Name → Bool
+isTexel (name k i) = eqb k 15
+
+-- how many declarations of t0 to t7 there are
+abbrev pub texels : List Occurrence → ℕ
+texels [] = 0
+texels (declaration m ∷ l) = cond (isTexel m) 1 0 + texels l
+texels (usage m ∷ l) = texels l
+texels (row k ∷ l) = texels l
+
+-- the sum of the n lowest binary digits of m
+abbrev pub setBits : ℕ → ℕ → ℕ
+setBits zero m = 0
+setBits (suc n) m = m % 2 + setBits n (m / 2)
+
+pub record Demand3 (text : List ℕ) (m : Emitted) : Type 0 where
+  -- before each use of a listed name stands exactly one declaration of it
+  pub declaredBefore : (n : Name) (before behind : List Occurrence) → occurrences text ≡ before ++ (usage n ∷ behind) → declared n before ≡ 1
+  -- no listed name is declared twice
+  pub declaredOnce : (n : Name) → declared n (occurrences text) ≤ 1
+  -- every row of `ps_c` is below the row count
+  pub rowsCounted : (k : ℕ) (before behind : List Occurrence) → occurrences text ≡ before ++ (row k ∷ behind) → k < m .rows
+  -- the lookups are the declarations of t0 to t7
+  pub lookupsWritten : texels (occurrences text) ≡ m .lookups
+  -- and no more than the mask's bits
+  pub lookupsMasked : m .lookups ≤ setBits 8 (m .mask)
+
+-- demand 3 of an answer and the bytes that the buffer then holds: a refusal wrote no text
+abbrev pub Demanded : Answer → List ℕ → Type 0
+Demanded (Refused r) out = Unit {0}
+Demanded (Text m) out = Demand3 (take (m .length) out) m

@@ -1,0 +1,57 @@
+-- What emission from values answers, and what it leaves in the lent buffer.
+use Prim.Native.Nat.{ℕ, _+_}
+use mathlib.Core.Bool.{Bool, true, false, not, _&&_, _||_, cond}
+use mathlib.Core.List.{List, [], _∷_, _++_}
+use lib.Dec.{eqb, leb, ltb}
+use lib.ListN.{length, take, drop}
+use Rattle.text.specs.Text.{flat}
+use Rattle.cascade.specs.Keys.{active, maskOf, rowsOf}
+use Rattle.cascade.specs.Reading.{live, lookupsOf}
+use Rattle.cascade.specs.Warnings.{stageWarnings}
+use Rattle.values.specs.declared.Stage.{Stage}
+use Rattle.values.specs.declared.Key.{Key}
+use Rattle.values.specs.Flags.{stageFlagsBad, variantFlagsBad}
+use Rattle.values.specs.Entries.{entryGood}
+use Rattle.shader.specs.Whole.{wholeText}
+use Rattle.values.specs.declared.Variant.{Variant}
+use Rattle.values.specs.declared.Entry.{Entry}
+use Rattle.values.specs.declared.Emitted.{Emitted}
+use Rattle.values.specs.declared.Refusal.{Refusal}
+use Rattle.values.specs.declared.Refusal.the-variants.{StageFlags, VariantFlags, EntryName, NoRoom}
+use Rattle.values.specs.declared.Answer.{Answer}
+use Rattle.values.specs.declared.Answer.the-variants.{Text, Refused}
+
+-- the bytes of the text
+abbrev pub textOf : Key → Variant → Entry → List ℕ
+textOf k v e = flat (wholeText k v e)
+
+-- 01: "8 for alpha function above 8, summed"
+abbrev pub warningOf : Key → Variant → ℕ
+warningOf k v = stageWarnings (active (k .stages)) + cond (leb 9 (v .«alpha_func»)) 8 0
+
+abbrev pub emittedOf : Key → Variant → Entry → Emitted
+emittedOf k v e =
+    record {
+      length = length (textOf k v e);
+      mask = maskOf (active (k .stages));
+      rows = rowsOf (active (k .stages));
+      lookups = lookupsOf (live (active (k .stages))) (active (k .stages));
+      warning = warningOf k v;
+    }
+
+-- 01: "Emission from values .. check 3, 5, 6 and 8 in that order", room being the buffer's length
+unfoldable pub answerOf : Key → Variant → Entry → ℕ → Answer
+answerOf k v e room =
+    cond (stageFlagsBad (k .stages)) (Refused StageFlags)
+    (cond (variantFlagsBad v) (Refused VariantFlags)
+    (cond (not (entryGood e)) (Refused EntryName)
+    (cond (ltb room (length (textOf k v e))) (Refused NoRoom) (Text (emittedOf k v e)))))
+
+-- 01: "The text begins the lent buffer; bytes behind it stay." A refusal leaves all.
+abbrev pub bufferAfter : Answer → List ℕ → List ℕ → List ℕ
+bufferAfter (Refused r) text out = out
+bufferAfter (Text m) text out = text ++ drop (length text) out
+
+-- 01: "the written front of that buffer, an empty part for a length beyond it"
+abbrev pub frontOf : List ℕ → ℕ → List ℕ
+frontOf buf len = cond (leb len (length buf)) (take len buf) []

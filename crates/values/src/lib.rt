@@ -1,0 +1,91 @@
+//! The values that the libraries hand to one another: keys, variants, entries, what emission reports, and why a call is refused.
+ghost use mathlib.Core.Path.{_≡_};
+ghost use Rattle.values.specs.Refusals.{numberOf};
+
+// An op and its two arguments, in Direct3D 9's codes.
+pub struct Combiner {
+    pub op: u8,
+    pub arg1: u8,
+    pub arg2: u8,
+}
+
+// A texture stage: seven bytes. Flag bit 0: a texture is bound; bit 1: the result goes to TEMP.
+pub struct Stage {
+    pub colour: Combiner,
+    pub alpha: Combiner,
+    pub flags: u8,
+}
+
+// Bit i of projected is for stage i.
+pub struct Key {
+    pub stages: [Stage; 8],
+    pub specular_add: bool,
+    pub projected: u8,
+}
+
+// The render states beside the key that shape the text. Masks have bit i for stage i.
+pub struct Variant {
+    pub alpha_func: u8,
+    pub fog_mode: u8,
+    pub fog_table_mode: u8,
+    pub depth_sampler: u16,
+    pub depth_fetch: u16,
+    pub fetch4: u16,
+    pub fetch4_alpha: u16,
+    pub raw_depth_red: u16,
+    pub volume: u16,
+    pub cube: u16,
+    pub sample_mask: u8,
+    pub flags: u8,
+}
+
+// The name of the fragment function: its first len bytes, then zeros.
+pub struct Entry {
+    pub len: u8,
+    pub name: [u8; 32],
+}
+
+// What an accepted emission reports of its text.
+pub struct Emitted {
+    pub length: usize,
+    pub mask: u8,
+    pub rows: u8,
+    pub lookups: u8,
+    pub warning: u8,
+}
+
+// Why a call is refused, in the order of the numbers, 1 to 9.
+pub enum Refusal {
+    CutShort,
+    UnknownKind,
+    StageFlags,
+    SpecularAdd,
+    VariantFlags,
+    EntryName,
+    EmitTooEarly,
+    NoRoom,
+    InputTooLong,
+}
+
+// What emission from values answers.
+pub enum Answer {
+    Text(Emitted),
+    Refused(Refusal),
+}
+
+// The number of a refusal.
+pub fn number(refusal: Refusal) -> u8
+    ensures { λ r. ⌜ r ≡ numberOf refusal ⌝ }
+{
+    match refusal {
+        Refusal::CutShort => 1,
+        Refusal::UnknownKind => 2,
+        Refusal::StageFlags => 3,
+        Refusal::SpecularAdd => 4,
+        Refusal::VariantFlags => 5,
+        Refusal::EntryName => 6,
+        Refusal::EmitTooEarly => 7,
+        Refusal::NoRoom => 8,
+        Refusal::InputTooLong => 9,
+    }
+}

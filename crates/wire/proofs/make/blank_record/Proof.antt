@@ -1,0 +1,11 @@
+use Rattle.wire.specs.Bodies.{keyOf, stagesOf, variantOf}
+use Rattle.wire.specs.Values.{blank}
+use Rattle.wire.proofs.make.blank_record.Statement.{statement}
+use Rattle.wire.proofs.make.blank_record.Tie as tie
+
+returns : tie.Need-returns
+unfolding blank keyOf stagesOf variantOf
+returns c = rw (c .blank-stage .ensures)
+
+pub blank-record-spec : {M : Type 1} → statement M
+blank-record-spec = tie.close (tie.spec (λ c κs. tt) returns)

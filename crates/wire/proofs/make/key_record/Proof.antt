@@ -1,0 +1,10 @@
+use Rattle.wire.specs.Values.{blank, keyRecord}
+use Rattle.wire.proofs.make.key_record.Statement.{statement}
+use Rattle.wire.proofs.make.key_record.Tie as tie
+
+returns : tie.Need-returns
+unfolding keyRecord blank
+returns c = rw (c .blank-record .ensures)
+
+pub key-record-spec : {M : Type 1} → statement M
+key-record-spec = tie.close (tie.spec (λ c κs. tt) returns)

@@ -1,0 +1,10 @@
+use Rattle.wire.specs.Values.{blank, variantRecord}
+use Rattle.wire.proofs.make.variant_record.Statement.{statement}
+use Rattle.wire.proofs.make.variant_record.Tie as tie
+
+returns : tie.Need-returns
+unfolding variantRecord blank
+returns c = rw (c .blank-record .ensures)
+
+pub variant-record-spec : {M : Type 1} → statement M
+variant-record-spec = tie.close (tie.spec (λ c κs. tt) returns)

@@ -1,0 +1,30 @@
+use Prim.Native.Nat.{_+_}
+use native.Mathlib.Omega.{arith}
+use borrow.Author.Needs.{needs}
+use Rattle.wire.proofs.reader.mask_at.Statement.{statement}
+use Rattle.wire.proofs.reader.mask_at.Tie as tie
+
+cast-low : tie.Need-cast-low
+cast-low c = omega (arith, c .shared-slice-known .given (c .before .args .at))
+
+cast-high : tie.Need-cast-high
+cast-high c = omega (arith, c .before .shared-slice-known .given (c .before .before .args .at), c .shared-slice-known2 .given (c .before .before .args .at + 1))
+
+mul-result : tie.Need-mul-result
+mul-result c = omega (arith, c .before .shared-slice-known .given (c .before .before .args .at), c .shared-slice-known2 .given (c .before .before .args .at + 1))
+
+add-result : tie.Need-add-result
+add-result c = omega (arith, c .before .shared-slice-known .given (c .before .before .args .at), c .shared-slice-known2 .given (c .before .before .args .at + 1))
+
+pub mask-at-spec : {M : Type 1} → statement M
+mask-at-spec =
+    tie.close
+    (tie.spec
+    (λ c. search needs)
+    cast-low
+    (λ c. search needs)
+    (λ c. search needs)
+    cast-high
+    mul-result
+    add-result
+    (λ c. search needs))

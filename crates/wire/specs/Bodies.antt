@@ -1,0 +1,124 @@
+-- The bytes of a record, and the values that the bytes of a body stand for. What stands behind a body is not looked at.
+use Prim.Native.Nat.{ℕ, zero, suc, _+_, _*_, _/_, _%_}
+use mathlib.Core.Path.{_≡_}
+use mathlib.Core.Bool.{cond}
+use mathlib.Core.List.{List, [], _∷_, _++_}
+use lib.Dec.{eqb}
+use lib.ListN.{length, take, drop, getD}
+use Rattle.values.specs.declared.Stage.{Stage}
+use Rattle.values.specs.declared.Key.{Key}
+use Rattle.values.specs.declared.Variant.{Variant}
+use Rattle.values.specs.declared.Entry.{Entry}
+use Rattle.wire.specs.declared.Kind.{Kind}
+use Rattle.wire.specs.declared.Kind.the-variants as kind
+use Rattle.wire.specs.declared.Record.{Record}
+
+-- 01: "A kind byte": "1, key", "2, variant", "3, entry", "4, emit"
+abbrev pub kindByte : Kind → ℕ
+kindByte kind.Key = 1
+kindByte kind.Variant = 2
+kindByte kind.Entry = 3
+kindByte kind.Emit = 4
+
+-- "then a body": "key, 58 bytes", "variant, 19", "entry, 33", "emit, 0 bytes"
+abbrev pub bodyLength : Kind → ℕ
+bodyLength kind.Key = 58
+bodyLength kind.Variant = 19
+bodyLength kind.Entry = 33
+bodyLength kind.Emit = 0
+
+-- the kind byte and the body
+abbrev pub recordLength : Kind → ℕ
+recordLength k = 1 + bodyLength k
+
+-- 01: "A stage is seven bytes: colour op, its arguments 1 and 2, alpha op, its arguments 1 and 2, flags."
+abbrev pub stageBytes : Stage → List ℕ
+stageBytes s =
+    s .colour .op ∷ s .colour .arg1 ∷ s .colour .arg2 ∷ s .alpha .op ∷ s .alpha .arg1 ∷ s .alpha .arg2 ∷ s .flags ∷ []
+
+abbrev pub stageOf : List ℕ → Stage
+stageOf b =
+    record {
+      colour = record { op = getD b 0 0; arg1 = getD b 1 0; arg2 = getD b 2 0 };
+      alpha = record { op = getD b 3 0; arg1 = getD b 4 0; arg2 = getD b 5 0 };
+      flags = getD b 6 0;
+    }
+
+-- stages one behind another
+unfoldable pub stagesBytes : List Stage → List ℕ
+stagesBytes [] = []
+stagesBytes (s ∷ r) = stageBytes s ++ stagesBytes r
+
+-- the first n stages
+unfoldable pub stagesOf : ℕ → List ℕ → List Stage
+stagesOf zero b = []
+stagesOf (suc n) b = stageOf b ∷ stagesOf n (drop 7 b)
+
+-- 01: "stages, specular 0 or 1, projected mask"
+unfoldable pub keyBytes : Key → List ℕ
+keyBytes k = stagesBytes (k .stages) ++ (cond (k .«specular_add») 1 0 ∷ k .projected ∷ [])
+
+unfoldable pub keyOf : List ℕ → Key
+keyOf b = record { stages = stagesOf 8 b; «specular_add» = eqb (getD b 56 0) 1; projected = getD b 57 0 }
+
+-- 01: "16-bit masks, low byte first"
+abbrev pub maskBytes : ℕ → List ℕ
+maskBytes m = m % 256 ∷ m / 256 ∷ []
+
+-- the mask whose low byte is byte i
+abbrev pub maskAt : List ℕ → ℕ → ℕ
+maskAt b i = getD b i 0 + 256 * getD b (i + 1) 0
+
+-- 01: "depth_sampler, depth_fetch, fetch4, fetch4_alpha, raw_depth_red, volume, cube"
+abbrev pub masksBytes : Variant → List ℕ
+masksBytes v =
+    maskBytes (v .«depth_sampler»)
+    ++ maskBytes (v .«depth_fetch»)
+    ++ maskBytes (v .fetch4)
+    ++ maskBytes (v .«fetch4_alpha»)
+    ++ maskBytes (v .«raw_depth_red»)
+    ++ maskBytes (v .volume)
+    ++ maskBytes (v .cube)
+
+-- 01: "alpha function, fog mode, fog table mode; seven 16-bit masks ..; sample mask; flags"
+unfoldable pub variantBytes : Variant → List ℕ
+variantBytes v = v .«alpha_func» ∷ v .«fog_mode» ∷ v .«fog_table_mode» ∷ (masksBytes v ++ (v .«sample_mask» ∷ v .flags ∷ []))
+
+unfoldable pub variantOf : List ℕ → Variant
+variantOf b =
+    record {
+      «alpha_func» = getD b 0 0;
+      «fog_mode» = getD b 1 0;
+      «fog_table_mode» = getD b 2 0;
+      «depth_sampler» = maskAt b 3;
+      «depth_fetch» = maskAt b 5;
+      fetch4 = maskAt b 7;
+      «fetch4_alpha» = maskAt b 9;
+      «raw_depth_red» = maskAt b 11;
+      volume = maskAt b 13;
+      cube = maskAt b 15;
+      «sample_mask» = getD b 17 0;
+      flags = getD b 18 0;
+    }
+
+-- 01: "length 1 to 32, the name, zeros"
+abbrev pub entryBytes : Entry → List ℕ
+entryBytes e = e .len ∷ e .name
+
+unfoldable pub entryOf : List ℕ → Entry
+entryOf b = record { len = getD b 0 0; name = take 32 (drop 1 b) }
+
+unfoldable pub bodyBytes : Kind → Record → List ℕ
+bodyBytes kind.Key r = keyBytes (r .key)
+bodyBytes kind.Variant r = variantBytes (r .variant)
+bodyBytes kind.Entry r = entryBytes (r .entry)
+bodyBytes kind.Emit r = []
+
+-- 01: "A kind byte, then a body"
+abbrev pub recordBytes : Record → List ℕ
+recordBytes r = kindByte (r .kind) ∷ bodyBytes (r .kind) r
+
+-- what the types say of a record: a key has eight stages, and an entry 32 bytes
+pub record Shaped (r : Record) : Type 0 where
+  pub stages : length (r .key .stages) ≡ 8
+  pub name : length (r .entry .name) ≡ 32

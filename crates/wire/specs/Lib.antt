@@ -1,0 +1,4 @@
+pub mod Bodies
+pub mod Values
+pub mod Reading
+pub mod Writing

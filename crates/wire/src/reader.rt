@@ -1,0 +1,222 @@
+//! The reader: the record at the front of some bytes, or why there is none.
+use crate::Kind;
+use crate::ReadAnswer;
+use crate::Reading;
+use crate::Record;
+use crate::body_length;
+use crate::make::blank_record;
+use crate::make::blank_stage;
+use crate::make::entry_record;
+use crate::make::key_record;
+use crate::make::variant_record;
+use crate::record_length;
+use admission::entry_good;
+use admission::stage_flags_bad;
+use admission::variant_flags_bad;
+use values::Combiner;
+use values::Entry;
+use values::Key;
+use values::Refusal;
+use values::Stage;
+use values::Variant;
+ghost use Prim.Native.Nat.{_+_, _≤_, _<_};
+ghost use mathlib.Core.Path.{_≡_};
+ghost use lib.ListN.{drop, length};
+ghost use Rattle.wire.specs.Bodies.{entryOf, keyOf, maskAt, stageOf, stagesOf, variantOf};
+ghost use Rattle.wire.specs.Reading.{readAs, readBody, readNamed, readRecord, refused, took};
+
+// The stage whose seven bytes begin at a place.
+fn stage_at(body: &[u8], at: usize) -> Stage
+    requires { ⌜ at + 7 ≤ length (now body) ⌝ }
+    ensures { λ r. ⌜ r ≡ stageOf (drop at (now (body .entry))) ⌝ }
+{
+    let colour = Combiner {
+        op: body[at],
+        arg1: body[at + 1],
+        arg2: body[at + 2],
+    };
+    let alpha = Combiner {
+        op: body[at + 3],
+        arg1: body[at + 4],
+        arg2: body[at + 5],
+    };
+    Stage {
+        colour: colour,
+        alpha: alpha,
+        flags: body[at + 6],
+    }
+}
+
+fn stages_of(body: &[u8]) -> [Stage; 8]
+    requires { ⌜ 56 ≤ length (now body) ⌝ }
+    ensures { λ r. ⌜ r ≡ stagesOf 8 (now (body .entry)) ⌝ }
+{
+    let s = blank_stage();
+    let mut stages = [s; 8];
+    let mut i = 0;
+    while i < 8 {
+        stages[i] = stage_at(body, 7 * i);
+        i += 1;
+    }
+    stages
+}
+
+fn key_of(body: &[u8]) -> Key
+    requires { ⌜ 58 ≤ length (now body) ⌝ }
+    ensures { λ r. ⌜ r ≡ keyOf (now (body .entry)) ⌝ }
+{
+    let stages = stages_of(body);
+    Key {
+        stages: stages,
+        specular_add: body[56] == 1,
+        projected: body[57],
+    }
+}
+
+// The mask of the two bytes at a place, the low byte first.
+fn mask_at(body: &[u8], at: usize) -> u16
+    requires { ⌜ at + 1 < length (now body) ⌝ }
+    ensures { λ r. ⌜ r ≡ maskAt (now (body .entry)) at ⌝ }
+{
+    let low = body[at] as u16;
+    let high = body[at + 1] as u16;
+    low + 256 * high
+}
+
+fn variant_of(body: &[u8]) -> Variant
+    requires { ⌜ 19 ≤ length (now body) ⌝ }
+    ensures { λ r. ⌜ r ≡ variantOf (now (body .entry)) ⌝ }
+{
+    let depth_sampler = mask_at(body, 3);
+    let depth_fetch = mask_at(body, 5);
+    let fetch4 = mask_at(body, 7);
+    let fetch4_alpha = mask_at(body, 9);
+    let raw_depth_red = mask_at(body, 11);
+    let volume = mask_at(body, 13);
+    let cube = mask_at(body, 15);
+    Variant {
+        alpha_func: body[0],
+        fog_mode: body[1],
+        fog_table_mode: body[2],
+        depth_sampler: depth_sampler,
+        depth_fetch: depth_fetch,
+        fetch4: fetch4,
+        fetch4_alpha: fetch4_alpha,
+        raw_depth_red: raw_depth_red,
+        volume: volume,
+        cube: cube,
+        sample_mask: body[17],
+        flags: body[18],
+    }
+}
+
+fn entry_of(body: &[u8]) -> Entry
+    requires { ⌜ 33 ≤ length (now body) ⌝ }
+    ensures { λ r. ⌜ r ≡ entryOf (now (body .entry)) ⌝ }
+{
+    let mut name = [0u8; 32];
+    let mut i = 0;
+    while i < 32 {
+        name[i] = body[i + 1];
+        i += 1;
+    }
+    Entry {
+        len: body[0],
+        name: name,
+    }
+}
+
+fn refuse(refusal: Refusal) -> Reading
+    ensures { λ r. ⌜ r ≡ refused refusal ⌝ }
+{
+    let found = blank_record(Kind::Emit);
+    Reading {
+        answer: ReadAnswer::Refused(refusal),
+        found: found,
+    }
+}
+
+fn take_record(found: Record) -> Reading
+    ensures { λ r. ⌜ r ≡ took found ⌝ }
+{
+    let kind = found.kind;
+    let n = record_length(kind);
+    Reading {
+        answer: ReadAnswer::Took(n),
+        found: found,
+    }
+}
+
+fn read_key(body: &[u8]) -> Reading
+    requires { ⌜ 58 ≤ length (now body) ⌝ }
+    ensures { λ r. ⌜ r ≡ readBody Kind.Key (now (body .entry)) ⌝ }
+{
+    let key = key_of(body);
+    let specular = body[56];
+    if stage_flags_bad(key) {
+        return refuse(Refusal::StageFlags);
+    }
+    if 1 < specular {
+        return refuse(Refusal::SpecularAdd);
+    }
+    take_record(key_record(key))
+}
+
+fn read_variant(body: &[u8]) -> Reading
+    requires { ⌜ 19 ≤ length (now body) ⌝ }
+    ensures { λ r. ⌜ r ≡ readBody Kind.Variant (now (body .entry)) ⌝ }
+{
+    let variant = variant_of(body);
+    if variant_flags_bad(variant) {
+        return refuse(Refusal::VariantFlags);
+    }
+    take_record(variant_record(variant))
+}
+
+fn read_entry(body: &[u8]) -> Reading
+    requires { ⌜ 33 ≤ length (now body) ⌝ }
+    ensures { λ r. ⌜ r ≡ readBody Kind.Entry (now (body .entry)) ⌝ }
+{
+    let entry = entry_of(body);
+    if !entry_good(entry) {
+        return refuse(Refusal::EntryName);
+    }
+    take_record(entry_record(entry))
+}
+
+fn read_as(kind: Kind, body: &[u8]) -> Reading
+    ensures { λ r. ⌜ r ≡ readAs kind (now (body .entry)) ⌝ }
+{
+    if body.len() < body_length(kind) {
+        return refuse(Refusal::CutShort);
+    }
+    match kind {
+        Kind::Key => read_key(body),
+        Kind::Variant => read_variant(body),
+        Kind::Entry => read_entry(body),
+        Kind::Emit => take_record(blank_record(Kind::Emit)),
+    }
+}
+
+// A record by its kind byte and what stands behind it.
+fn read_named(byte: u8, body: &[u8]) -> Reading
+    ensures { λ r. ⌜ r ≡ readNamed byte (now (body .entry)) ⌝ }
+{
+    match byte {
+        1 => read_as(Kind::Key, body),
+        2 => read_as(Kind::Variant, body),
+        3 => read_as(Kind::Entry, body),
+        4 => read_as(Kind::Emit, body),
+        _ => refuse(Refusal::UnknownKind),
+    }
+}
+
+// The record at the front of the bytes. Those behind it are not looked at.
+pub fn read(bytes: &[u8]) -> Reading
+    ensures { λ r. ⌜ r ≡ readRecord (now (bytes .entry)) ⌝ }
+{
+    if 0 < bytes.len() {
+        return read_named(bytes[0], &bytes[1..]);
+    }
+    refuse(Refusal::CutShort)
+}

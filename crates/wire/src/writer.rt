@@ -1,0 +1,158 @@
+//! The writer: a record's bytes at the front of a lent buffer, or why there are none.
+use crate::Checked;
+use crate::Kind;
+use crate::Record;
+use crate::WriteAnswer;
+use crate::record_length;
+use admission::entry_good;
+use admission::stage_flags_bad;
+use admission::variant_flags_bad;
+use text::put;
+use values::Entry;
+use values::Key;
+use values::Refusal;
+use values::Stage;
+use values::Variant;
+ghost use mathlib.Core.Path.{_≡_};
+ghost use mathlib.Core.List.{_∷_};
+ghost use lib.ListN.{length};
+ghost use Rattle.text.specs.Text.{raw};
+ghost use Rattle.text.specs.Buffer.{Wrote};
+ghost use Rattle.wire.specs.Bodies.{entryBytes, keyBytes, maskBytes, masksBytes, recordBytes, stageBytes, stagesBytes, variantBytes};
+ghost use Rattle.wire.specs.Writing.{bufferAfter, checked, writeAnswer};
+
+fn put_stage(out: &mut [u8], at: usize, s: Stage) -> usize
+    ensures { λ r. ⌜ Wrote (now (out .entry)) at (now (out .exit)) r (raw (stageBytes s)) ⌝ }
+{
+    let b = [
+        s.colour.op,
+        s.colour.arg1,
+        s.colour.arg2,
+        s.alpha.op,
+        s.alpha.arg1,
+        s.alpha.arg2,
+        s.flags,
+    ];
+    put(out, at, &b)
+}
+
+fn put_stages(out: &mut [u8], at: usize, key: Key) -> usize
+    ensures { λ r. ⌜ Wrote (now (out .entry)) at (now (out .exit)) r (raw (stagesBytes (key .stages))) ⌝ }
+{
+    let mut p = at;
+    let mut i = 0;
+    while i < 8 {
+        let s = key.stages[i];
+        p = put_stage(out, p, s);
+        i += 1;
+    }
+    p
+}
+
+fn put_key(out: &mut [u8], key: Key) -> usize
+    ensures { λ r. ⌜ Wrote (now (out .entry)) 0 (now (out .exit)) r (raw (1 ∷ keyBytes key)) ⌝ }
+{
+    let a = put(out, 0, b"\x01");
+    let b = put_stages(out, a, key);
+    let last = [key.specular_add as u8, key.projected];
+    put(out, b, &last)
+}
+
+fn put_mask(out: &mut [u8], at: usize, mask: u16) -> usize
+    ensures { λ r. ⌜ Wrote (now (out .entry)) at (now (out .exit)) r (raw (maskBytes mask)) ⌝ }
+{
+    let b = [(mask % 256) as u8, (mask / 256) as u8];
+    put(out, at, &b)
+}
+
+fn put_masks(out: &mut [u8], at: usize, v: Variant) -> usize
+    ensures { λ r. ⌜ Wrote (now (out .entry)) at (now (out .exit)) r (raw (masksBytes v)) ⌝ }
+{
+    let a = put_mask(out, at, v.depth_sampler);
+    let b = put_mask(out, a, v.depth_fetch);
+    let c = put_mask(out, b, v.fetch4);
+    let d = put_mask(out, c, v.fetch4_alpha);
+    let e = put_mask(out, d, v.raw_depth_red);
+    let f = put_mask(out, e, v.volume);
+    put_mask(out, f, v.cube)
+}
+
+fn put_variant(out: &mut [u8], v: Variant) -> usize
+    ensures { λ r. ⌜ Wrote (now (out .entry)) 0 (now (out .exit)) r (raw (2 ∷ variantBytes v)) ⌝ }
+{
+    let first = [2, v.alpha_func, v.fog_mode, v.fog_table_mode];
+    let a = put(out, 0, &first);
+    let b = put_masks(out, a, v);
+    let last = [v.sample_mask, v.flags];
+    put(out, b, &last)
+}
+
+fn put_entry(out: &mut [u8], entry: Entry) -> usize
+    ensures { λ r. ⌜ Wrote (now (out .entry)) 0 (now (out .exit)) r (raw (3 ∷ entryBytes entry)) ⌝ }
+{
+    let first = [3, entry.len];
+    let name = entry.name;
+    let a = put(out, 0, &first);
+    put(out, a, &name)
+}
+
+fn put_record(out: &mut [u8], made: Record) -> usize
+    ensures { λ r. ⌜ Wrote (now (out .entry)) 0 (now (out .exit)) r (raw (recordBytes made)) ⌝ }
+{
+    let kind = made.kind;
+    let key = made.key;
+    let variant = made.variant;
+    let entry = made.entry;
+    match kind {
+        Kind::Key => put_key(out, key),
+        Kind::Variant => put_variant(out, variant),
+        Kind::Entry => put_entry(out, entry),
+        Kind::Emit => put(out, 0, b"\x04"),
+    }
+}
+
+pub fn check(made: Record) -> Checked
+    ensures { λ r. ⌜ r ≡ checked made ⌝ }
+{
+    let kind = made.kind;
+    let key = made.key;
+    let variant = made.variant;
+    let entry = made.entry;
+    match kind {
+        Kind::Key => {
+            if stage_flags_bad(key) {
+                return Checked::Bad(Refusal::StageFlags);
+            }
+        }
+        Kind::Variant => {
+            if variant_flags_bad(variant) {
+                return Checked::Bad(Refusal::VariantFlags);
+            }
+        }
+        Kind::Entry => {
+            if !entry_good(entry) {
+                return Checked::Bad(Refusal::EntryName);
+            }
+        }
+        Kind::Emit => {}
+    }
+    Checked::Good
+}
+
+pub fn write(made: Record, out: &mut [u8]) -> WriteAnswer
+    ensures answer { λ r. ⌜ r ≡ writeAnswer made (length (now (out .entry))) ⌝ }
+    ensures buffer { λ r. ⌜ now (out .exit) ≡ bufferAfter r (recordBytes made) (now (out .entry)) ⌝ }
+{
+    let kind = made.kind;
+    let n = record_length(kind);
+    match check(made) {
+        Checked::Bad(refusal) => WriteAnswer::Refused(refusal),
+        Checked::Good => {
+            if out.len() < n {
+                return WriteAnswer::Refused(Refusal::NoRoom);
+            }
+            put_record(out, made);
+            WriteAnswer::Wrote(n)
+        }
+    }
+}
