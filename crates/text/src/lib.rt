@@ -7,57 +7,64 @@ ghost use mathlib.Core.Path.{_≡_};
 ghost use lib.ListN.{length};
 ghost use lib.Seq.{sets};
 ghost use Rattle.text.specs.Text.{raw, pick, when, digit, decimal};
-ghost use Rattle.text.specs.Marks.{filled, marked, numbered};
+ghost use Rattle.text.specs.Marks.{filledByte, filled, numbered};
 ghost use Rattle.text.specs.Buffer.{Placed, Wrote};
 
-// A byte of a text, or the mark where it is `#`.
-fn filled(mark: u8, b: u8) -> u8
-    ensures { λ r. ⌜ r ≡ filled mark b ⌝ }
+// In a literal, the place of a digit.
+const MARK: u8 = b'#';
+
+// The place that is answered for a piece that does not fit: the greatest number, which no buffer is as long as.
+const OUTSIDE: usize = 18446744073709551615;
+
+// A byte of a literal, or the digit where it is a mark.
+fn filled_byte(digit: u8, b: u8) -> u8
+    ensures { λ r. ⌜ r ≡ filledByte digit b ⌝ }
 {
-    if b == b'#' {
-        return mark;
+    if b == MARK {
+        return digit;
     }
     b
 }
 
 // The bytes of s, filled, into out from at on.
-fn copy(out: &mut [u8], at: usize, s: &[u8], mark: u8)
+fn copy(out: &mut [u8], at: usize, s: &[u8], digit: u8)
     requires { ⌜ at + length (now s) ≤ length (now out) ⌝ }
-    ensures { λ _. ⌜ now (out .exit) ≡ sets (now (out .entry)) at (marked mark (now (s .entry))) ⌝ }
+    ensures { λ _. ⌜ now (out .exit) ≡ sets (now (out .entry)) at (filled digit (now (s .entry))) ⌝ }
 {
     let mut i = 0;
     while i < s.len() {
-        out[at + i] = filled(mark, s[i]);
+        out[at + i] = filled_byte(digit, s[i]);
         i += 1;
     }
 }
 
 // One test before the copy and none in it: where s is a literal, its length is known and the copy is a few stores of constants.
-fn put_marked(out: &mut [u8], at: usize, s: &[u8], mark: u8) -> usize
-    ensures { λ r. ⌜ Placed (now (out .entry)) at (now (out .exit)) r (raw (marked mark (now (s .entry)))) ⌝ }
+fn put_filled(out: &mut [u8], at: usize, s: &[u8], digit: u8) -> usize
+    ensures { λ r. ⌜ Placed (now (out .entry)) at (now (out .exit)) r (raw (filled digit (now (s .entry)))) ⌝ }
 {
     if out.len() < s.len() {
-        return 18446744073709551615;
+        return OUTSIDE;
     }
     if out.len() - s.len() < at {
-        return 18446744073709551615;
+        return OUTSIDE;
     }
-    copy(out, at, s, mark);
+    copy(out, at, s, digit);
     at + s.len()
 }
 
+// The bytes of s. A mark in them stays: it is filled with itself.
 pub fn put(out: &mut [u8], at: usize, s: &[u8]) -> usize
     ensures { λ r. ⌜ Placed (now (out .entry)) at (now (out .exit)) r (raw (now (s .entry))) ⌝ }
 {
-    put_marked(out, at, s, b'#')
+    put_filled(out, at, s, MARK)
 }
 
-// The bytes of s, with the digit n for each `#`.
+// The bytes of s, with the digit n for each mark.
 pub fn put_numbered(out: &mut [u8], at: usize, s: &[u8], n: u8) -> usize
     requires { ⌜ n < 10 ⌝ }
     ensures { λ r. ⌜ Placed (now (out .entry)) at (now (out .exit)) r (numbered n (now (s .entry))) ⌝ }
 {
-    put_marked(out, at, s, 48 + n)
+    put_filled(out, at, s, b'0' + n)
 }
 
 // One of two.
@@ -85,7 +92,7 @@ pub fn put_digit(out: &mut [u8], at: usize, n: u8) -> usize
     requires { ⌜ n < 10 ⌝ }
     ensures { λ r. ⌜ Placed (now (out .entry)) at (now (out .exit)) r (digit n) ⌝ }
 {
-    let b = [48 + n];
+    let b = [b'0' + n];
     put(out, at, &b)
 }
 
