@@ -1,5 +1,5 @@
 -- The laws of writing: one text behind another is the two joined; a text that fits is written whole; which of two texts; a text's length.
-use Prim.Native.Nat.{ℕ, zero, suc, _+_, _<_, _≤_}
+use Prim.Native.Nat.{ℕ, zero, suc, _+_, _%_, _<_, _≤_}
 use mathlib.Core.Bool.{Bool, true, false, cond}
 use mathlib.Core.Path.{_≡_, refl, ap, sym, subst, _∙_}
 use mathlib.Core.List.{List, [], _∷_, _++_}
@@ -11,7 +11,7 @@ use borrow.Author.Tests.{ne-eqb, le-leb, lt-leb, le-ltb, lt-ltb}
 use lib.Dec.{eqb, eqb→eq}
 use lib.ListN.{length, drop, getD, set, length-append}
 use lib.Seq.{sets, sets-eq}
-use Rattle.text.specs.Text.{Text, raw, _⊕_, pick, flat, size}
+use Rattle.text.specs.Text.{Text, raw, _⊕_, pick, flat, size, digit}
 use Rattle.text.specs.Marks.{filledByte, filled}
 use Rattle.text.specs.Buffer.{Placed, Wrote}
 
@@ -117,6 +117,10 @@ case t x y l l′ a a′ e w = rw e w
 -- a test of a number that is known
 pub eqb-at : (x m n : ℕ) (b : Bool) → x ≡ m → eqb m n ≡ b → eqb x n ≡ b
 eqb-at x m n b e f = rw e f
+
+-- the last digit of a number below ten is the number
+pub one-digit : {l l′ : List ℕ} {a a′ : ℕ} (n : ℕ) → n < 10 → Wrote l a l′ a′ (digit (n % 10)) → Wrote l a l′ a′ (digit n)
+one-digit n h w = let e : n % 10 ≡ n = omega arith in rw e at w
 
 -- what `search` is handed at the return of a function that writes text
 pub ruleset texts = (_⨾_, nothing, pick-true, pick-false, eqb-at, ne-eqb, le-leb, lt-leb, le-ltb, lt-ltb)

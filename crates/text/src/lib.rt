@@ -2,7 +2,7 @@
 //!
 //! Each function writes at a place of the buffer and returns the place behind the last byte. A piece that does not fit is not written, and
 //! the place returned is then outside the buffer, from where nothing fits any more.
-ghost use Prim.Native.Nat.{_<_, _≤_, _+_};
+ghost use Prim.Native.Nat.{_<_, _≤_, _+_, _%_};
 ghost use mathlib.Core.Path.{_≡_};
 ghost use lib.ListN.{length};
 ghost use lib.Seq.{sets};
@@ -88,11 +88,11 @@ pub fn put_when(out: &mut [u8], at: usize, there: bool, s: &[u8]) -> usize
     at
 }
 
+// The last decimal digit of n.
 pub fn put_digit(out: &mut [u8], at: usize, n: u8) -> usize
-    requires { ⌜ n < 10 ⌝ }
-    ensures { λ r. ⌜ Placed (now (out .entry)) at (now (out .exit)) r (digit n) ⌝ }
+    ensures { λ r. ⌜ Placed (now (out .entry)) at (now (out .exit)) r (digit (n % 10)) ⌝ }
 {
-    let b = [b'0' + n];
+    let b = [b'0' + n % 10];
     put(out, at, &b)
 }
 
@@ -106,9 +106,9 @@ pub fn put_decimal(out: &mut [u8], at: usize, n: u8) -> usize
     }
     if tens < 10 {
         let a = put_digit(out, at, tens);
-        return put_digit(out, a, n % 10);
+        return put_digit(out, a, n);
     }
     let a = put_digit(out, at, tens / 10);
-    let b = put_digit(out, a, tens % 10);
-    put_digit(out, b, n % 10)
+    let b = put_digit(out, a, tens);
+    put_digit(out, b, n)
 }
