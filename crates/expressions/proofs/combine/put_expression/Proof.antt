@@ -1,3 +1,4 @@
+-- What is written in the form of the operation is its expression, by the table's theorem.
 use Prim.Native.Nat.{ℕ}
 use mathlib.Core.Path.{_≡_}
 use mathlib.Core.List.{List}

@@ -1,3 +1,4 @@
+-- Each arm writes the words that it matched, with argument 1 in them where they name it.
 use borrow.Author.Needs.{needs}
 use Prim.Native.Nat.{ℕ}
 use mathlib.Core.Path.{_≡_}
@@ -5,16 +6,16 @@ use mathlib.Core.List.{List}
 use Rattle.text.specs.Text.{Text}
 use Rattle.text.specs.Buffer.{Wrote}
 use Rattle.text.proofs.Laws.{case, texts}
-use Rattle.expressions.specs.declared.forms.Middle.{Middle}
-use Rattle.expressions.specs.Forms.{middleText}
-use Rattle.expressions.proofs.words.put_middle.Statement.{statement}
-use Rattle.expressions.proofs.words.put_middle.Tie as tie
+use Rattle.expressions.specs.declared.forms.Ending.{Ending}
+use Rattle.expressions.specs.Forms.{endingText}
+use Rattle.expressions.proofs.words.put_ending.Statement.{statement}
+use Rattle.expressions.proofs.words.put_ending.Tie as tie
 
-of : (i : ℕ) (t : Text) (x y : Middle) (l l′ : List ℕ) (a a′ : ℕ) → x ≡ y → Wrote l a l′ a′ (middleText i t y) → Wrote l a l′ a′ (middleText i t x)
-of i t = case (middleText i t)
+of : (i : ℕ) (t : Text) (x y : Ending) (l l′ : List ℕ) (a a′ : ℕ) → x ≡ y → Wrote l a l′ a′ (endingText i t y) → Wrote l a l′ a′ (endingText i t x)
+of i t = case (endingText i t)
 
-pub put-middle-spec : {M : Type 1} → statement M
-put-middle-spec =
+pub put-ending-spec : {M : Type 1} → statement M
+put-ending-spec =
     tie.close
     (tie.spec
     (λ c. search)
@@ -53,11 +54,6 @@ put-middle-spec =
     (λ c. search)
     (λ c. search)
     (λ c κs. search)
-    (λ c. search)
-    (λ c. search)
-    (λ c κs. search)
-    (λ c. cc)
-    (λ c. search (of, texts))
     (λ c. cc)
     (λ c. search (of, texts))
     (λ c. cc)

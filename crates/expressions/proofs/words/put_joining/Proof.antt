@@ -1,3 +1,4 @@
+-- Each arm writes the words that it matched, with argument 1 in them where they name it.
 use borrow.Author.Needs.{needs}
 use Prim.Native.Nat.{ℕ}
 use mathlib.Core.Path.{_≡_}
@@ -5,16 +6,16 @@ use mathlib.Core.List.{List}
 use Rattle.text.specs.Text.{Text}
 use Rattle.text.specs.Buffer.{Wrote}
 use Rattle.text.proofs.Laws.{case, texts}
-use Rattle.expressions.specs.declared.forms.Close.{Close}
-use Rattle.expressions.specs.Forms.{closeText}
-use Rattle.expressions.proofs.words.put_close.Statement.{statement}
-use Rattle.expressions.proofs.words.put_close.Tie as tie
+use Rattle.expressions.specs.declared.forms.Joining.{Joining}
+use Rattle.expressions.specs.Forms.{joiningText}
+use Rattle.expressions.proofs.words.put_joining.Statement.{statement}
+use Rattle.expressions.proofs.words.put_joining.Tie as tie
 
-of : (i : ℕ) (t : Text) (x y : Close) (l l′ : List ℕ) (a a′ : ℕ) → x ≡ y → Wrote l a l′ a′ (closeText i t y) → Wrote l a l′ a′ (closeText i t x)
-of i t = case (closeText i t)
+of : (i : ℕ) (t : Text) (x y : Joining) (l l′ : List ℕ) (a a′ : ℕ) → x ≡ y → Wrote l a l′ a′ (joiningText i t y) → Wrote l a l′ a′ (joiningText i t x)
+of i t = case (joiningText i t)
 
-pub put-close-spec : {M : Type 1} → statement M
-put-close-spec =
+pub put-joining-spec : {M : Type 1} → statement M
+put-joining-spec =
     tie.close
     (tie.spec
     (λ c. search)
@@ -53,6 +54,11 @@ put-close-spec =
     (λ c. search)
     (λ c. search)
     (λ c κs. search)
+    (λ c. search)
+    (λ c. search)
+    (λ c κs. search)
+    (λ c. cc)
+    (λ c. search (of, texts))
     (λ c. cc)
     (λ c. search (of, texts))
     (λ c. cc)
