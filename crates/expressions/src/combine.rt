@@ -27,7 +27,8 @@ fn put_both(
     stage: u8,
 ) -> usize
     requires { ⌜ stage < 8 ⌝ }
-    ensures { λ r. ⌜ Wrote (now (out .entry)) at (now (out .exit)) r (formText stage (argText stage x) (argText stage y) (Form.Both opening joining ending)) ⌝ }
+    ensures { λ r. ⌜ Wrote (now (out .entry)) at (now (out .exit)) r
+        (formText stage (argText stage x) (argText stage y) (Form.Both opening joining ending)) ⌝ }
 {
     let mut p = put_opening(out, at, opening);
     p = put_arg(out, p, x, stage);

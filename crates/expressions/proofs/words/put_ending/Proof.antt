@@ -11,8 +11,9 @@ use Rattle.expressions.specs.Forms.{endingText}
 use Rattle.expressions.proofs.words.put_ending.Statement.{statement}
 use Rattle.expressions.proofs.words.put_ending.Tie as tie
 
-of : (i : ℕ) (t : Text) (x y : Ending) (l l′ : List ℕ) (a a′ : ℕ) → x ≡ y → Wrote l a l′ a′ (endingText i t y) → Wrote l a l′ a′ (endingText i t x)
-of i t = case (endingText i t)
+module _ (i : ℕ) (t : Text) (x y : Ending) (l l′ : List ℕ) (a a′ : ℕ) where
+  of : x ≡ y → Wrote l a l′ a′ (endingText i t y) → Wrote l a l′ a′ (endingText i t x)
+  of = case (endingText i t) x y l l′ a a′
 
 pub put-ending-spec : {M : Type 1} → statement M
 put-ending-spec =

@@ -11,8 +11,9 @@ use Rattle.expressions.specs.Forms.{joiningText}
 use Rattle.expressions.proofs.words.put_joining.Statement.{statement}
 use Rattle.expressions.proofs.words.put_joining.Tie as tie
 
-of : (i : ℕ) (t : Text) (x y : Joining) (l l′ : List ℕ) (a a′ : ℕ) → x ≡ y → Wrote l a l′ a′ (joiningText i t y) → Wrote l a l′ a′ (joiningText i t x)
-of i t = case (joiningText i t)
+module _ (i : ℕ) (t : Text) (x y : Joining) (l l′ : List ℕ) (a a′ : ℕ) where
+  of : x ≡ y → Wrote l a l′ a′ (joiningText i t y) → Wrote l a l′ a′ (joiningText i t x)
+  of = case (joiningText i t) x y l l′ a a′
 
 pub put-joining-spec : {M : Type 1} → statement M
 put-joining-spec =
