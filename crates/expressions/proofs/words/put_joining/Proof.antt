@@ -1,3 +1,4 @@
+-- Each arm writes the words that it matched, with argument 1 in them where they name it.
 use borrow.Author.Needs.{needs}
 use Prim.Native.Nat.{ℕ}
 use mathlib.Core.Path.{_≡_}
@@ -5,16 +6,17 @@ use mathlib.Core.List.{List}
 use Rattle.text.specs.Text.{Text}
 use Rattle.text.specs.Buffer.{Wrote}
 use Rattle.text.proofs.Laws.{case, texts}
-use Rattle.expressions.specs.declared.forms.Middle.{Middle}
-use Rattle.expressions.specs.Forms.{middleText}
-use Rattle.expressions.proofs.words.put_middle.Statement.{statement}
-use Rattle.expressions.proofs.words.put_middle.Tie as tie
+use Rattle.expressions.specs.declared.forms.Joining.{Joining}
+use Rattle.expressions.specs.Forms.{joiningText}
+use Rattle.expressions.proofs.words.put_joining.Statement.{statement}
+use Rattle.expressions.proofs.words.put_joining.Tie as tie
 
-of : (i : ℕ) (t : Text) (x y : Middle) (l l′ : List ℕ) (a a′ : ℕ) → x ≡ y → Wrote l a l′ a′ (middleText i t y) → Wrote l a l′ a′ (middleText i t x)
-of i t = case (middleText i t)
+module _ (i : ℕ) (t : Text) (x y : Joining) (l l′ : List ℕ) (a a′ : ℕ) where
+  of : x ≡ y → Wrote l a l′ a′ (joiningText i t y) → Wrote l a l′ a′ (joiningText i t x)
+  of = case (joiningText i t) x y l l′ a a′
 
-pub put-middle-spec : {M : Type 1} → statement M
-put-middle-spec =
+pub put-joining-spec : {M : Type 1} → statement M
+put-joining-spec =
     tie.close
     (tie.spec
     (λ c. search)

@@ -1,3 +1,4 @@
+-- Each arm writes the words that it matched, with argument 1 in them where they name it.
 use borrow.Author.Needs.{needs}
 use Prim.Native.Nat.{ℕ}
 use mathlib.Core.Path.{_≡_}
@@ -5,16 +6,17 @@ use mathlib.Core.List.{List}
 use Rattle.text.specs.Text.{Text}
 use Rattle.text.specs.Buffer.{Wrote}
 use Rattle.text.proofs.Laws.{case, texts}
-use Rattle.expressions.specs.declared.forms.Close.{Close}
-use Rattle.expressions.specs.Forms.{closeText}
-use Rattle.expressions.proofs.words.put_close.Statement.{statement}
-use Rattle.expressions.proofs.words.put_close.Tie as tie
+use Rattle.expressions.specs.declared.forms.Ending.{Ending}
+use Rattle.expressions.specs.Forms.{endingText}
+use Rattle.expressions.proofs.words.put_ending.Statement.{statement}
+use Rattle.expressions.proofs.words.put_ending.Tie as tie
 
-of : (i : ℕ) (t : Text) (x y : Close) (l l′ : List ℕ) (a a′ : ℕ) → x ≡ y → Wrote l a l′ a′ (closeText i t y) → Wrote l a l′ a′ (closeText i t x)
-of i t = case (closeText i t)
+module _ (i : ℕ) (t : Text) (x y : Ending) (l l′ : List ℕ) (a a′ : ℕ) where
+  of : x ≡ y → Wrote l a l′ a′ (endingText i t y) → Wrote l a l′ a′ (endingText i t x)
+  of = case (endingText i t) x y l l′ a a′
 
-pub put-close-spec : {M : Type 1} → statement M
-put-close-spec =
+pub put-ending-spec : {M : Type 1} → statement M
+put-ending-spec =
     tie.close
     (tie.spec
     (λ c. search)

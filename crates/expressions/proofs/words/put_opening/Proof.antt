@@ -1,10 +1,11 @@
+-- Each arm writes the words that it matched.
 use Rattle.text.proofs.Laws.{case}
-use Rattle.expressions.specs.Forms.{openText}
-use Rattle.expressions.proofs.words.put_open.Statement.{statement}
-use Rattle.expressions.proofs.words.put_open.Tie as tie
+use Rattle.expressions.specs.Forms.{openingText}
+use Rattle.expressions.proofs.words.put_opening.Statement.{statement}
+use Rattle.expressions.proofs.words.put_opening.Tie as tie
 
-pub put-open-spec : {M : Type 1} → statement M
-put-open-spec =
+pub put-opening-spec : {M : Type 1} → statement M
+put-opening-spec =
     tie.close
     (tie.spec
     (λ c. search)
@@ -29,16 +30,16 @@ put-open-spec =
     (λ c. search)
     (λ c κs. search)
     (λ c. cc)
-    (λ c. search (case openText))
+    (λ c. search (case openingText))
     (λ c. cc)
-    (λ c. search (case openText))
+    (λ c. search (case openingText))
     (λ c. cc)
-    (λ c. search (case openText))
+    (λ c. search (case openingText))
     (λ c. cc)
-    (λ c. search (case openText))
+    (λ c. search (case openingText))
     (λ c. cc)
-    (λ c. search (case openText))
+    (λ c. search (case openingText))
     (λ c. cc)
-    (λ c. search (case openText))
+    (λ c. search (case openingText))
     (λ c. cc)
-    (λ c. search (case openText)))
+    (λ c. search (case openingText)))
