@@ -1,0 +1,8 @@
+-- The cause is asked of both combiners, and counts where they are applied.
+use Rattle.cascade.specs.Warnings.{warns}
+use Rattle.cascade.proofs.warnings.warns_modifier.Statement.{statement}
+use Rattle.cascade.proofs.warnings.warns_modifier.Tie as tie
+
+pub warns-modifier-spec : {M : Type 1} → statement M
+unfolding warns
+warns-modifier-spec = tie.close (tie.spec (λ c κs. tt) (λ c κs. tt) (λ c κs. tt) (λ c. cc))

@@ -1,0 +1,8 @@
+-- The cause is asked of both combiners, and counts where they are applied.
+use Rattle.cascade.specs.Warnings.{warns}
+use Rattle.cascade.proofs.warnings.warns_selector.Statement.{statement}
+use Rattle.cascade.proofs.warnings.warns_selector.Tie as tie
+
+pub warns-selector-spec : {M : Type 1} → statement M
+unfolding warns
+warns-selector-spec = tie.close (tie.spec (λ c κs. tt) (λ c κs. tt) (λ c κs. tt) (λ c. cc))
