@@ -21,7 +21,7 @@ use Rattle.wire.specs.declared.ReadAnswer.the-variants.{Took}
 use Rattle.wire.specs.declared.WriteAnswer.the-variants.{Wrote}
 use Rattle.wire.proofs.Bodies.{Shaped, Bytes, Free, stages-blank, name-blank, body-length, key-back, specular-back, variant-back, entry-back}
 use Rattle.wire.proofs.Laws.{known}
-use Rattle.wire.proofs.Found.{Taken, read-cases, read-taken}
+use Rattle.wire.proofs.Found.{read-cases, read-taken}
 use Rattle.wire.proofs.Written.{fits-writes, wrote}
 
 -- a record with the value of its kind alone

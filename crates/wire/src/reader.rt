@@ -30,12 +30,13 @@ ghost use Rattle.wire.specs.Bodies.{bodyLength, entryFromBody, keyFromBo
 ghost use Rattle.wire.specs.Reading.{byKind, readAs, readBody, readNumber, readRecord, recordNumber, refused, took};
 ghost use Rattle.values.specs.declared.Refusal.the-variants.{UnknownKind};
 
-// A stage has seven bytes; specular add and the projected mask stand behind the eight stages.
+// How many bytes a stage has.
 const STAGE_BYTES: usize = 7;
 
-const SPECULAR_AT: usize = 56;
+// Where specular add and the projected mask stand in a key's body, behind the eight stages.
+const SPECULAR_AT: usize = 8 * STAGE_BYTES;
 
-const PROJECTED_AT: usize = 57;
+const PROJECTED_AT: usize = SPECULAR_AT + 1;
 
 // The stage whose seven bytes begin at a place.
 fn stage_at(body: &[u8], at: usize) -> Stage

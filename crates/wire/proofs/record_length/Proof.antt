@@ -1,3 +1,4 @@
+-- A body is short, so that one more byte still fits a `usize`.
 use Rattle.wire.proofs.Bodies.{body-short}
 use native.Mathlib.Omega.{arith}
 use borrow.Author.Needs.{needs}

@@ -1,3 +1,4 @@
+-- The stages, and the two bytes behind them.
 use Rattle.wire.specs.Bodies.{keyFromBody}
 use borrow.Author.Needs.{needs}
 use Rattle.wire.proofs.reader.key_from_body.Statement.{statement}

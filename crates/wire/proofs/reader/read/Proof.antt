@@ -18,7 +18,7 @@ returns : tie.Need-returns
 returns c = numbered _ _ (c .read-kind .ensures ∙ read-some _ (omega arith))
 
 returns-2 : tie.Need-returns-2
-returns-2 c = numbered _ _ (c .refuse .ensures ∙ read-none _ (c .before .if1 .left))
+returns-2 c = numbered _ _ (c .refuse .ensures ∙ read-none _ (omega arith))
 
 pub read-spec : {M : Type 1} → statement M
 read-spec =

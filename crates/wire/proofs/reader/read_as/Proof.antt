@@ -1,5 +1,6 @@
 -- A body that is not cut short is read by the arm of its kind.
 use mathlib.Core.Path.{ap, _∙_}
+use native.Mathlib.Omega.{arith}
 use borrow.Author.Needs.{needs}
 use Rattle.wire.specs.Reading.{took, readBody}
 use Rattle.wire.proofs.Laws.{read-short, read-whole, body-fits}
@@ -7,7 +8,7 @@ use Rattle.wire.proofs.reader.read_as.Statement.{statement}
 use Rattle.wire.proofs.reader.read_as.Tie as tie
 
 returns : tie.Need-returns
-returns c = c .refuse .ensures ∙ read-short _ _ (c .before .before .body-length .ensures) (c .before .if1 .taken)
+returns c = c .refuse .ensures ∙ read-short _ _ (c .before .before .body-length .ensures) (omega arith)
 
 read-key-requires : tie.Need-read-key-requires
 read-key-requires c κs = let s = c .before .before in body-fits (s .before .body-length .ensures) (c .enum-told .given .1) (s .if1 .left)

@@ -1,3 +1,4 @@
+-- The stages read so far, and those still to be read, make all eight.
 use Prim.Native.Nat.{suc, _+_, _≤_, _-_, _*_}
 use mathlib.Core.Path.{_≡_, refl, sym, _∙_}
 use mathlib.Core.List.{_++_}
@@ -9,7 +10,6 @@ use Rattle.wire.proofs.Laws.{stage-more, stages-done}
 use Rattle.wire.proofs.reader.stages_from_bytes.Statement.{statement}
 use Rattle.wire.proofs.reader.stages_from_bytes.Tie as tie
 
--- the stages read so far, and those still to be read, make all eight
 abbrev Inv-loop : tie.InvT-loop
 Inv-loop body stages₀ i₀ stages i = (i ≤ 8) × (length stages ≡ 8) × (take i stages ++ stagesFromBytes (8 - i) (drop (7 * i) body) ≡ stagesFromBytes 8 body)
 
@@ -34,7 +34,8 @@ loop-less c = omega arith
 loop-again : tie.Need-loop-again Inv-loop μ-loop
 loop-again c = let b = c .before .before in
     let e : 8 - b .loop .i ≡ suc (8 - (b .loop .i + 1)) = omega arith in
-    (omega arith, simp length-set (b .loop .inv .1), rw (c .stage-at .ensures) (stage-more (b .before .before .before .args .body .now) (b .loop .stages) (b .loop .i) _ (omega arith) ∙ rw (sym e) (b .loop .inv .2)))
+    let more = stage-more (b .before .before .before .args .body .now) (b .loop .stages) (b .loop .i) (8 - (b .loop .i + 1)) (omega arith) in
+    (omega arith, simp length-set (b .loop .inv .1), rw (c .stage-at .ensures) (more ∙ rw (sym e) (b .loop .inv .2)))
 
 returns : tie.Need-returns Inv-loop μ-loop
 returns c = let b = c .before in
