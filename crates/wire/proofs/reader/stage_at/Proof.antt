@@ -1,3 +1,4 @@
+-- Byte i behind a place is byte i of what stands from there on.
 use native.Mathlib.Nat.{add-zero}
 use lib.Seq.{getD-drop}
 use borrow.Author.Needs.{needs}
