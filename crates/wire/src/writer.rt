@@ -1,5 +1,4 @@
 //! The writer: a record's bytes at the front of a lent buffer, or why there are none.
-use crate::Checked;
 use crate::Kind;
 use crate::Record;
 use crate::WriteAnswer;
@@ -19,7 +18,7 @@ ghost use lib.ListN.{length};
 ghost use Rattle.text.specs.Text.{raw};
 ghost use Rattle.text.specs.Buffer.{Wrote};
 ghost use Rattle.wire.specs.Bodies.{entryBytes, keyBytes, maskBytes, masksBytes, recordBytes, stageBytes, stagesBytes, variantBytes};
-ghost use Rattle.wire.specs.Writing.{bufferAfter, checked, writeAnswer};
+ghost use Rattle.wire.specs.Writing.{afterWriting, writeAnswer, writeInto, writeNumber, writtenNumber};
 
 fn put_stage(out: &mut [u8], at: usize, s: Stage) -> usize
     ensures { λ r. ⌜ Wrote (now (out .entry)) at (now (out .exit)) r (raw (stageBytes s)) ⌝ }
@@ -111,48 +110,55 @@ fn put_record(out: &mut [u8], made: Record) -> usize
     }
 }
 
-pub fn check(made: Record) -> Checked
-    ensures { λ r. ⌜ r ≡ checked made ⌝ }
+// The record's length, unless the buffer is shorter.
+fn judge_room(kind: Kind, room: usize) -> WriteAnswer
+    ensures { λ r. ⌜ r ≡ writeInto room kind ⌝ }
+{
+    let n = record_length(kind);
+    if room < n {
+        return WriteAnswer::Refused(Refusal::NoRoom);
+    }
+    WriteAnswer::Wrote(n)
+}
+
+// What is answered, before anything is written.
+fn judge(made: Record, room: usize) -> WriteAnswer
+    ensures { λ r. ⌜ r ≡ writeAnswer made room ⌝ }
 {
     let kind = made.kind;
     let key = made.key;
     let variant = made.variant;
     let entry = made.entry;
+    let fits = judge_room(kind, room);
     match kind {
         Kind::Key => {
             if stage_flags_bad(key) {
-                return Checked::Bad(Refusal::StageFlags);
+                return WriteAnswer::Refused(Refusal::StageFlags);
             }
         }
         Kind::Variant => {
             if variant_flags_bad(variant) {
-                return Checked::Bad(Refusal::VariantFlags);
+                return WriteAnswer::Refused(Refusal::VariantFlags);
             }
         }
         Kind::Entry => {
             if !entry_good(entry) {
-                return Checked::Bad(Refusal::EntryName);
+                return WriteAnswer::Refused(Refusal::EntryName);
             }
         }
         Kind::Emit => {}
     }
-    Checked::Good
+    fits
 }
 
 pub fn write(made: Record, out: &mut [u8]) -> WriteAnswer
     ensures answer { λ r. ⌜ r ≡ writeAnswer made (length (now (out .entry))) ⌝ }
-    ensures buffer { λ r. ⌜ now (out .exit) ≡ bufferAfter r (recordBytes made) (now (out .entry)) ⌝ }
+    ensures buffer { λ r. ⌜ now (out .exit) ≡ afterWriting r (recordBytes made) (now (out .entry)) ⌝ }
+    ensures number { λ r. ⌜ writeNumber r ≡ writtenNumber made (length (now (out .entry))) ⌝ }
 {
-    let kind = made.kind;
-    let n = record_length(kind);
-    match check(made) {
-        Checked::Bad(refusal) => WriteAnswer::Refused(refusal),
-        Checked::Good => {
-            if out.len() < n {
-                return WriteAnswer::Refused(Refusal::NoRoom);
-            }
-            put_record(out, made);
-            WriteAnswer::Wrote(n)
-        }
+    let answer = judge(made, out.len());
+    if let WriteAnswer::Wrote(_) = answer {
+        put_record(out, made);
     }
+    answer
 }

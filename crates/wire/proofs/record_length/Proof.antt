@@ -1,4 +1,4 @@
-use Rattle.wire.proofs.Laws.{body-short}
+use Rattle.wire.proofs.Bodies.{body-short}
 use native.Mathlib.Omega.{arith}
 use borrow.Author.Needs.{needs}
 use Rattle.wire.proofs.record_length.Statement.{statement}

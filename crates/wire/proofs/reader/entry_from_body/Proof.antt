@@ -2,10 +2,10 @@ use mathlib.Core.Path.{_≡_, refl}
 use Prim.Native.Nat.{_≤_, _-_}
 use native.Mathlib.Omega.{arith}
 use lib.ListN.{length, take, drop, length-set}
-use Rattle.wire.specs.Bodies.{entryOf}
+use Rattle.wire.specs.Bodies.{entryFromBody}
 use Rattle.wire.proofs.Laws.{byte-more, name-done}
-use Rattle.wire.proofs.reader.entry_of.Statement.{statement}
-use Rattle.wire.proofs.reader.entry_of.Tie as tie
+use Rattle.wire.proofs.reader.entry_from_body.Statement.{statement}
+use Rattle.wire.proofs.reader.entry_from_body.Tie as tie
 
 -- the bytes copied so far are those of the name
 abbrev Inv-loop : tie.InvT-loop
@@ -40,12 +40,12 @@ shared-slice-read-t11 : tie.Need-shared-slice-read-t11 Inv-loop μ-loop
 shared-slice-read-t11 c = omega arith
 
 returns : tie.Need-returns Inv-loop μ-loop
-unfolding entryOf
+unfolding entryFromBody
 returns c = let b = c .before .before in
     rw (name-done (b .before .args .body .now) (b .loop .name) (b .loop .i) (omega arith) (b .loop .inv .1) (b .loop .inv .2))
 
-pub entry-of-spec : {M : Type 1} → statement M
-entry-of-spec =
+pub entry-from-body-spec : {M : Type 1} → statement M
+entry-from-body-spec =
     tie.close
     (tie.spec
     Inv-loop

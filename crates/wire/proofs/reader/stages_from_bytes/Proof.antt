@@ -4,14 +4,14 @@ use mathlib.Core.List.{_++_}
 use native.Mathlib.Omega.{arith}
 use borrow.Author.Needs.{needs}
 use lib.ListN.{length, take, drop, length-set}
-use Rattle.wire.specs.Bodies.{stagesOf}
+use Rattle.wire.specs.Bodies.{stagesFromBytes}
 use Rattle.wire.proofs.Laws.{stage-more, stages-done}
-use Rattle.wire.proofs.reader.stages_of.Statement.{statement}
-use Rattle.wire.proofs.reader.stages_of.Tie as tie
+use Rattle.wire.proofs.reader.stages_from_bytes.Statement.{statement}
+use Rattle.wire.proofs.reader.stages_from_bytes.Tie as tie
 
 -- the stages read so far, and those still to be read, make all eight
 abbrev Inv-loop : tie.InvT-loop
-Inv-loop body stages₀ i₀ stages i = (i ≤ 8) × (length stages ≡ 8) × (take i stages ++ stagesOf (8 - i) (drop (7 * i) body) ≡ stagesOf 8 body)
+Inv-loop body stages₀ i₀ stages i = (i ≤ 8) × (length stages ≡ 8) × (take i stages ++ stagesFromBytes (8 - i) (drop (7 * i) body) ≡ stagesFromBytes 8 body)
 
 abbrev μ-loop : tie.MeasureT-loop
 μ-loop body stages₀ i₀ stages i = 8 - i
@@ -40,8 +40,8 @@ returns : tie.Need-returns Inv-loop μ-loop
 returns c = let b = c .before in
     stages-done _ _ (b .loop .i) (omega arith) (b .loop .inv .1) (b .loop .inv .2)
 
-pub stages-of-spec : {M : Type 1} → statement M
-stages-of-spec =
+pub stages-from-bytes-spec : {M : Type 1} → statement M
+stages-from-bytes-spec =
     tie.close
     (tie.spec
     Inv-loop
