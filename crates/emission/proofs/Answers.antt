@@ -25,7 +25,7 @@ use Rattle.shader.specs.Whole.{wholeText}
 use Rattle.values.specs.Flags.{stageFlagsBad, variantFlagsBad}
 use Rattle.values.specs.Entries.{entryGood}
 use Rattle.values.specs.Admitted.{Admitted}
-use Rattle.shader.specs.Results.{textOf, emittedOf, answerOf, answerNumber, emissionNumber}
+use Rattle.shader.specs.Results.{textOf, alphaWarning, emittedOf, answerOf, answerNumber, emissionNumber}
 use Rattle.shader.specs.Demand.{Demand3}
 use Rattle.values.specs.declared.Variant.{Variant}
 use Rattle.values.specs.declared.Entry.{Entry}
@@ -119,7 +119,7 @@ module _ (k : Key) (v : Variant) (e : Entry) (room : ℕ) where
   numbered h = ap answerNumber h ∙ number-of-answer k v e room
 
 pub accepted : (k : Key) (v : Variant) (e : Entry) (u : Survey) (at lookups warning : ℕ) → u ≡ surveyOf (k .stages) → at ≡ length (textOf k v e)
-    → lookups ≡ lookupsOf (u .live) (active (k .stages)) → warning ≡ u .warning + cond (leb 9 (v .«alpha_func»)) 8 0
+    → lookups ≡ lookupsOf (u .live) (active (k .stages)) → warning ≡ u .warning + alphaWarning (v .«alpha_func»)
     → record { length = at; mask = u .mask; rows = u .rows; lookups = lookups; warning = warning } ≡ emittedOf k v e
 unfolding surveyOf
 accepted k v e u at lookups warning hu ha hl hw = rw (hw, hl, ha, hu)
