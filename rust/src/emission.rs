@@ -1,0 +1,51 @@
+//! The text of a key, a variant and an entry.
+
+use crate::{Entry, Key, Refusal, Variant, raw, values::front_of};
+
+/// A text and what is known of it.
+#[derive(Clone, Copy, Debug, PartialEq, Eq)]
+pub struct Emission<'a> {
+    /// The Metal function, at the front of the buffer that it was written to.
+    pub text: &'a str,
+    /// Bit i is set if stage i is active and has a texture.
+    pub mask: u64,
+    /// The number of rows that the buffer `ps_c` must have: 0 to 9.
+    pub rows: u64,
+    /// The number of texture lookups in the text: 0 to 8.
+    pub lookups: u64,
+    /// The sum of what is in [`warning`](crate::warning).
+    pub warning: u64,
+}
+
+impl<'a> Emission<'a> {
+    pub(crate) fn of(emitted: &raw::Emitted, buffer: &'a [u8]) -> Self {
+        Self {
+            text: front_of(buffer, emitted.length as usize),
+            mask: emitted.mask,
+            rows: emitted.rows,
+            lookups: emitted.lookups,
+            warning: emitted.warning,
+        }
+    }
+}
+
+/// Writes the Metal function of a key, a variant and an entry to the front of a buffer. Does not modify the bytes after the text.
+///
+/// # Errors
+/// [`Refusal::NoRoom`] if the text is longer than the buffer, which [`TEXT_LENGTH`](crate::TEXT_LENGTH) bytes rule out.
+pub fn emit<'a>(
+    key: &Key,
+    variant: &Variant,
+    entry: &Entry,
+    buffer: &'a mut [u8],
+) -> Result<Emission<'a>, Refusal> {
+    let mut emitted = raw::Emitted::default();
+    Refusal::check(raw::emit(
+        key.as_bytes(),
+        variant.as_bytes(),
+        entry.as_bytes(),
+        buffer,
+        &mut emitted,
+    ))?;
+    Ok(Emission::of(&emitted, buffer))
+}
