@@ -1,12 +1,12 @@
 //! The text of a key, a variant and an entry.
 
-use crate::{Entry, Key, Refusal, Variant, raw, values::front_of};
+use crate::{Entry, Key, Refusal, Variant, raw, values::ascii};
 
 /// A text and what is known of it.
 #[derive(Clone, Copy, Debug, PartialEq, Eq)]
 pub struct Emission<'a> {
-    /// The Metal function, at the front of the buffer that it was written to.
-    pub text: &'a str,
+    /// The Metal function, in ASCII, at the front of the buffer that it was written to.
+    pub text: &'a [u8],
     /// Bit i is set if stage i is active and has a texture.
     pub mask: u64,
     /// The number of rows that the buffer `ps_c` must have: 0 to 9.
@@ -20,12 +20,18 @@ pub struct Emission<'a> {
 impl<'a> Emission<'a> {
     pub(crate) fn of(emitted: &raw::Emitted, buffer: &'a [u8]) -> Self {
         Self {
-            text: front_of(buffer, emitted.length as usize),
+            text: buffer.get(..emitted.length as usize).unwrap_or_default(),
             mask: emitted.mask,
             rows: emitted.rows,
             lookups: emitted.lookups,
             warning: emitted.warning,
         }
+    }
+
+    /// The text as a string. This goes through all its bytes once more.
+    #[must_use]
+    pub fn as_str(&self) -> &'a str {
+        ascii(self.text)
     }
 }
 

@@ -13,7 +13,7 @@
 //! }]);
 //! let mut buffer = [0; TEXT_LENGTH];
 //! let emission = emit(&key, &Variant::default(), &Entry::new("my_shader")?, &mut buffer)?;
-//! assert!(emission.text.contains("fragment float4 my_shader("));
+//! assert!(emission.as_str().contains("fragment float4 my_shader("));
 //! # Ok::<(), yuzuknoll::Refusal>(())
 //! ```
 //!

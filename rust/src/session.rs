@@ -15,7 +15,7 @@ use crate::{Emission, Entry, Key, Kind, Record, Refusal, Variant, raw};
 /// let mut rest = records.as_slice();
 /// while !rest.is_empty() {
 ///     if let Applied::Text(emission) = session.apply(&mut rest, &mut buffer)? {
-///         println!("{}", emission.text);
+///         println!("{}", emission.as_str());
 ///     }
 /// }
 /// # Ok::<(), yuzuknoll::Refusal>(())

@@ -207,7 +207,8 @@ impl Entry {
 
     #[must_use]
     pub fn as_str(&self) -> &str {
-        front_of(&self.name, self.length.into())
+        let name = self.name.get(..self.length.into());
+        ascii(name.unwrap_or_default())
     }
 
     /// The entry of bytes that the archive accepts.
@@ -234,10 +235,9 @@ impl FromStr for Entry {
     }
 }
 
-/// The front of a buffer as a string. Names and texts of the archive are ASCII and fit their buffers, so this drops nothing.
-pub(crate) fn front_of(buffer: &[u8], length: usize) -> &str {
-    let front = buffer.get(..length).map(str::from_utf8);
-    front.and_then(Result::ok).unwrap_or_default()
+/// Bytes that the archive wrote or accepted as a name or a text. It is proved that they are ASCII, so the default is never used.
+pub(crate) fn ascii(bytes: &[u8]) -> &str {
+    str::from_utf8(bytes).unwrap_or_default()
 }
 
 macro_rules! as_bytes {

@@ -143,7 +143,7 @@ fn emits_into_buffers_that_hold_the_text() {
     );
     assert!(
         emission
-            .text
+            .as_str()
             .contains("current = float4(((t0 * in.color0)).rgb, (current).a);")
     );
     let text = emission.text.to_owned();

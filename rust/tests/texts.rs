@@ -21,13 +21,15 @@ impl Text {
     fn of(key: &Key, variant: &Variant) -> Self {
         let mut buffer = [0xaa; TEXT_LENGTH];
         let entry = Entry::new("shader").unwrap();
+        let emission = emit(key, variant, &entry, &mut buffer).unwrap();
         let Emission {
-            text,
             mask,
             rows,
             lookups,
             warning,
-        } = emit(key, variant, &entry, &mut buffer).unwrap();
+            ..
+        } = emission;
+        let text = emission.as_str();
         assert!(text.starts_with("#include <metal_stdlib>\n"));
         assert!(text.ends_with(";\n}\n"));
         Self {

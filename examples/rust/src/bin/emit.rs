@@ -32,6 +32,6 @@ fn main() -> Result<(), Refusal> {
         "// mask {}, rows {}, lookups {}, warning {}",
         emission.mask, emission.rows, emission.lookups, emission.warning
     );
-    print!("{}", emission.text);
+    print!("{}", emission.as_str());
     Ok(())
 }
