@@ -99,7 +99,7 @@ extern "C" {
 #define YUZUKNOLL_STAGE_TEXTURED 1 /* A texture is bound to the stage. */
 #define YUZUKNOLL_STAGE_TO_TEMP 2  /* The result goes to the register TEMP, not to the next stage. */
 
-/* One texture stage. */
+/* One texture stage. Set the alpha op too: YUZUKNOLL_OP_DISABLE keeps alpha, and 0 gives argument 1 and a warning. */
 typedef struct {
     uint8_t colour_op, colour_arg1, colour_arg2;
     uint8_t alpha_op, alpha_arg1, alpha_arg2;
@@ -196,8 +196,12 @@ typedef struct {
 
 /* Writes the Metal function of a key, a variant and an entry to the front of text, as ASCII without a zero at the end.
  *
- * The function takes ps_c in buffer 15, and if it needs them alpha_ref in buffer 14, fog_data in 13, bump_env in 12 and
- * lod_bias in 11. Stage i has texture i and sampler i.
+ * Stage i has texture i and sampler i. The function takes these buffers, all but ps_c only if it needs them:
+ *   15 ps_c       row 0 is the texture factor, row i + 1 the constant of stage i
+ *   14 alpha_ref  the reference value of the alpha test
+ *   13 fog_data   row 0 is the fog colour; row 1 holds start, end, density and depth bias
+ *   12 bump_env   row 2 * i is the matrix of stage i (m00, m01, m10, m11); row 2 * i + 1 has luminance scale and offset
+ *   11 lod_bias   row i holds the bias of stage i in x, and in w the level for a lookup of depth
  *
  * Refuses with 3, 4, 5, 6 or 8, in this order. Does not modify the bytes after the text. On refusal nothing is
  * modified. */
