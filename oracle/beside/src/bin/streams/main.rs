@@ -1,22 +1,29 @@
 //! `streams [SEED [COUNT]]`: yuzuknoll_read, yuzuknoll_write and yuzuknoll_apply beside the Rust side's translation, on COUNT streams of records.
 //!
-//! A stream is gone through record by record, up to its end or the first refusal. At each record the answers of the three functions are compared, bit
-//! by bit, and every byte of what is held, of the written record and of the text's buffer, in front of it and behind it too. Beside the step itself
-//! there are calls with other buffers, short ones among them, and with what is held damaged or of another length.
+//! A stream is gone through record by record, up to its end or the first refusal. At each record the answers of the three functions are compared,
+//! every number that they report, and every byte of what is held, of the written record and of the text's buffer, in front of it and behind it too. A
+//! refusal must leave the report as it was. Beside the step itself there are calls with other buffers, short ones among them, and with what is held
+//! damaged.
 //!
 //! First the comparison is shown to fail: wrong functions are put in the place of the archive's, and each must be found. Prints the counts and the
 //! first differences; the exit status is 1 if there is any, or if a wrong function passes.
 
+mod wrong;
+
 use std::process::ExitCode;
 
-use beside::{Lent, applied, length, read_answer, refused};
+use beside::{Answer, Lent, Report, applied, length, read_result};
 use oraclelib::{
     Outcome,
     generate::{self, Rng, Stream},
     program::{Held, Record},
     records::{Kind, Refusal},
 };
-use yuzuknoll::{HELD_LENGTH, KEY_LENGTH, TEXT_LENGTH, VARIANT_LENGTH, packed};
+use wrong::Wrong;
+use yuzuknoll::{
+    TEXT_LENGTH,
+    raw::{self, Applied, HELD_LENGTH},
+};
 
 const SEED: u64 = 1;
 const COUNT: u64 = 25_000;
@@ -53,25 +60,45 @@ fn main() -> ExitCode {
 
 /// The three functions, or others in their place.
 trait Functions {
-    fn read(&self, bytes: &[u8]) -> u64;
-    fn write(&self, record: &[u8], out: &mut [u8]) -> u64;
-    fn apply(&self, held: &mut [u8], bytes: &[u8], text: &mut [u8]) -> u64;
+    fn read(&self, bytes: &[u8], report: &mut raw::Record) -> u64;
+    fn write(&self, bytes: &[u8], out: &mut [u8], report: &mut raw::Record) -> u64;
+    fn apply(
+        &self,
+        held: &mut [u8; HELD_LENGTH],
+        bytes: &[u8],
+        text: &mut [u8],
+        report: &mut Applied,
+    ) -> u64;
 }
 
 struct Archive;
 
 impl Functions for Archive {
-    fn read(&self, bytes: &[u8]) -> u64 {
-        packed::read(bytes)
+    fn read(&self, bytes: &[u8], report: &mut raw::Record) -> u64 {
+        raw::read(bytes, report)
     }
 
-    fn write(&self, record: &[u8], out: &mut [u8]) -> u64 {
-        packed::write(record, out)
+    fn write(&self, bytes: &[u8], out: &mut [u8], report: &mut raw::Record) -> u64 {
+        raw::write(bytes, out, report)
     }
 
-    fn apply(&self, held: &mut [u8], bytes: &[u8], text: &mut [u8]) -> u64 {
-        packed::apply(held, bytes, text)
+    fn apply(
+        &self,
+        held: &mut [u8; HELD_LENGTH],
+        bytes: &[u8],
+        text: &mut [u8],
+        report: &mut Applied,
+    ) -> u64 {
+        raw::apply(held, bytes, text, report)
     }
+}
+
+/// Whether the comparison finds a wrong function.
+fn found(wrong: Wrong) -> bool {
+    let mut run = Run::new(&wrong, SEED);
+    run.shown = 0;
+    run.streams(SELF_TEST);
+    run.differences != 0
 }
 
 /// A stream of 01's, or bytes that are none.
@@ -105,7 +132,7 @@ fn noise(rng: &mut Rng) -> Vec<u8> {
 }
 
 /// What is held, as yuzuknoll_apply is lent it.
-fn held_bytes(held: &Held) -> Vec<u8> {
+fn held_bytes(held: &Held) -> [u8; HELD_LENGTH] {
     let part = |record: Option<Record>, kind| {
         record.map_or_else(|| vec![0; length(kind)], |record| record.bytes())
     };
@@ -115,12 +142,14 @@ fn held_bytes(held: &Held) -> Vec<u8> {
         part(held.entry.map(Record::Entry), Kind::Entry),
     ]
     .concat()
+    .try_into()
+    .expect("three records")
 }
 
 /// What some lent bytes hold: a part that is no good record of its kind is not there.
-fn held_of(bytes: &[u8]) -> Held {
-    let (key, rest) = bytes.split_at(KEY_LENGTH);
-    let (variant, entry) = rest.split_at(VARIANT_LENGTH);
+fn held_of(bytes: &[u8; HELD_LENGTH]) -> Held {
+    let (key, rest) = bytes.split_at(length(Kind::Key));
+    let (variant, entry) = rest.split_at(length(Kind::Variant));
     let mut held = Held::default();
     if let Ok(Record::Key(key)) = Record::read(key) {
         held.key = Some(key);
@@ -138,8 +167,8 @@ fn held_of(bytes: &[u8]) -> Held {
 const fn place(kind: Kind) -> usize {
     match kind {
         Kind::Key => 0,
-        Kind::Variant => KEY_LENGTH,
-        Kind::Entry => KEY_LENGTH + VARIANT_LENGTH,
+        Kind::Variant => length(Kind::Key),
+        Kind::Entry => length(Kind::Key) + length(Kind::Variant),
         Kind::Emit => HELD_LENGTH,
     }
 }
@@ -164,8 +193,8 @@ impl Step {
         }
     }
 
-    /// What must be answered with a buffer of a length.
-    fn result(&self, room: usize) -> Result<u64, Refusal> {
+    /// What must be reported with a buffer of a length.
+    fn result(&self, room: usize) -> Result<Applied, Refusal> {
         match self {
             Self::Refused(refusal) => Err(*refusal),
             Self::Replaced(record) => Ok(applied(record.kind(), None)),
@@ -237,7 +266,7 @@ impl<'a> Run<'a> {
     /// Goes through a stream to its end or the first refusal, which is given with its offset.
     fn walk(&mut self, stream: &Stream) -> Option<(Refusal, usize)> {
         let mut theirs = Held::default();
-        let mut ours = vec![0; HELD_LENGTH];
+        let mut ours = [0; HELD_LENGTH];
         let mut at = 0;
         while at < stream.input.len() {
             let rest = &stream.input[at..];
@@ -269,11 +298,14 @@ impl<'a> Run<'a> {
     }
 
     fn read(&mut self, bytes: &[u8]) {
-        let expected = read_answer(&Record::read(bytes));
-        let got = self.functions.read(bytes);
-        self.count(READ, expected);
+        let before = raw::Record::filled(self.rng.byte());
+        let expected = Answer::of(read_result(&Record::read(bytes)), before);
+        let mut report = before;
+        let number = self.functions.read(bytes, &mut report);
+        let got = Answer { number, report };
+        self.count(READ, expected.number);
         self.check(got == expected, || {
-            format!("read of {bytes:02x?}: expected {expected:#018x}, got {got:#018x}")
+            format!("read of {bytes:02x?}: expected {expected:?}, got {got:?}")
         });
     }
 
@@ -287,27 +319,31 @@ impl<'a> Run<'a> {
             4 => record.len().saturating_sub(1),
             _ => self.rng.below(70),
         };
-        let mut expected = read_answer(&read);
-        self.out.fill(room, self.rng.byte());
-        if read.is_ok() {
-            if record.len() > room {
-                expected = refused(Refusal::LongText);
-            } else {
-                self.out.expect(0, &record);
-            }
+        let start = self.rng.byte();
+        self.out.fill(room, start);
+        let mut result = read_result(&read);
+        if record.len() > room {
+            result = Err(Refusal::LongText);
+        } else {
+            self.out.expect(0, &record);
         }
-        let got = self.functions.write(bytes, self.out.buffer());
+        let before = raw::Record::filled(start);
+        let expected = Answer::of(result, before);
+        let mut report = before;
+        let out = self.out.buffer();
+        let number = self.functions.write(bytes, out, &mut report);
+        let got = Answer { number, report };
         self.bytes += room;
-        self.count(WRITE, expected);
+        self.count(WRITE, expected.number);
         let good = got == expected && self.out.as_expected();
         let difference = self.difference(good, "buffer");
         self.check(good, || {
-            format!("write of {bytes:02x?} into {room} bytes: expected {expected:#018x}, got {got:#018x}; {difference}")
+            format!("write of {bytes:02x?} into {room} bytes: expected {expected:?}, got {got:?}; {difference}")
         });
     }
 
     /// Calls beside the step: with other buffers, and with what is held damaged. They are made on copies.
-    fn beside(&mut self, held: &[u8], bytes: &[u8], step: &Step) {
+    fn beside(&mut self, held: &[u8; HELD_LENGTH], bytes: &[u8], step: &Step) {
         let lengths: &[usize] = match step {
             Step::Text(o) => {
                 let text = o.text.len();
@@ -322,62 +358,68 @@ impl<'a> Run<'a> {
             _ => &[self.rng.below(100)],
         };
         for &length in lengths {
-            self.apply(&mut held.to_vec(), bytes, length, step);
+            let mut copy = *held;
+            self.apply(&mut copy, bytes, length, step);
         }
         if self.rng.one_in(4) {
-            self.damaged(held.to_vec(), bytes);
+            self.damaged(*held, bytes);
         }
     }
 
-    /// What is held, spoilt at a byte or two, or of another length.
-    fn damaged(&mut self, mut held: Vec<u8>, bytes: &[u8]) {
+    /// What is held, spoilt at a byte or two.
+    fn damaged(&mut self, mut held: [u8; HELD_LENGTH], bytes: &[u8]) {
         let rng = &mut self.rng;
         self.damaged += 1;
-        let step = if rng.one_in(4) {
-            held.resize(
-                rng.pick(&[0, 1, 59, HELD_LENGTH - 1, HELD_LENGTH + 1, 200]),
-                0,
-            );
-            Step::Refused(Refusal::Cut)
-        } else {
-            for _ in 0..=rng.below(2) {
-                let any = rng.below(HELD_LENGTH);
-                let at = rng.pick(&[0, 7, 57, 59, 78, 79, 80, 81, any]);
-                held[at] = rng.byte();
-            }
-            Step::of(&held_of(&held), Record::read(bytes))
-        };
+        for _ in 0..=rng.below(2) {
+            let any = rng.below(HELD_LENGTH);
+            let at = rng.pick(&[0, 7, 57, 59, 78, 79, 80, 81, any]);
+            held[at] = rng.byte();
+        }
+        let step = Step::of(&held_of(&held), Record::read(bytes));
         let room = self.rng.pick(&[0, 700, TEXT_LENGTH]);
         self.apply(&mut held, bytes, room, &step);
     }
 
-    /// One call on what is held, which is left in `held`. Answers how many bytes the record took.
-    fn apply(&mut self, held: &mut Vec<u8>, bytes: &[u8], room: usize, step: &Step) -> usize {
-        let expected = step.result(room).unwrap_or_else(refused);
-        self.held.load(held, self.rng.byte());
+    /// One call on what is held, which is left in `held`. Answers how many bytes the record took, 0 if it was refused.
+    fn apply(
+        &mut self,
+        held: &mut [u8; HELD_LENGTH],
+        bytes: &[u8],
+        room: usize,
+        step: &Step,
+    ) -> usize {
+        let start = self.rng.byte();
+        self.held.load(held, start);
         self.out.fill(room, self.rng.byte());
+        let before = Applied::filled(start);
+        let expected = Answer::of(step.result(room), before);
         match step {
             Step::Replaced(record) => self.held.expect(place(record.kind()), &record.bytes()),
-            Step::Text(outcome) if expected & 255 == 0 => {
+            Step::Text(outcome) if expected.number == 0 => {
                 self.out.expect(0, outcome.text.as_bytes());
                 self.texts += 1;
                 self.text += outcome.text.len();
             }
             _ => {}
         }
-        let got = self
-            .functions
-            .apply(self.held.buffer(), bytes, self.out.buffer());
+        let mut report = before;
+        let lent = self.held.buffer().first_chunk_mut().expect("what is held");
+        let text = self.out.buffer();
+        let number = self.functions.apply(lent, bytes, text, &mut report);
+        let got = Answer { number, report };
         self.bytes += room;
-        self.count(APPLY, expected);
+        self.count(APPLY, expected.number);
         let good = got == expected && self.held.as_expected() && self.out.as_expected();
         let difference = self.difference(good, "text");
         self.check(good, || {
-            format!("apply of {bytes:02x?} to {held:02x?}, a buffer of {room} bytes: expected {expected:#018x}, got {got:#018x}; {difference}")
+            format!("apply of {bytes:02x?} to {held:02x?}, a buffer of {room} bytes: expected {expected:?}, got {got:?}; {difference}")
         });
-        held.clear();
-        held.extend_from_slice(self.held.buffer());
-        (got >> 56) as usize
+        held.copy_from_slice(self.held.buffer());
+        if number == 0 {
+            report.taken as usize
+        } else {
+            0
+        }
     }
 
     fn difference(&self, good: bool, name: &str) -> String {
@@ -390,7 +432,7 @@ impl<'a> Run<'a> {
 
     fn count(&mut self, function: usize, expected: u64) {
         self.calls[function] += 1;
-        self.refused[function][(expected & 255) as usize] += 1;
+        self.refused[function][expected as usize] += 1;
     }
 
     fn check(&mut self, good: bool, what: impl FnOnce() -> String) {
@@ -404,7 +446,7 @@ impl<'a> Run<'a> {
 
     fn print(&self, seed: u64) {
         println!(
-            "seed {seed}: {} streams, {} gone through to their end, the others to a refusal; {} calls with what is held damaged or of another length",
+            "seed {seed}: {} streams, {} gone through to their end, the others to a refusal; {} calls with what is held damaged",
             self.streams, self.ended, self.damaged
         );
         for (name, function) in [("read", READ), ("write", WRITE), ("apply", APPLY)] {
@@ -422,130 +464,5 @@ impl<'a> Run<'a> {
             "{} texts, {} bytes of text, {} bytes of buffers, {} differences",
             self.texts, self.text, self.bytes, self.differences
         );
-    }
-}
-
-/// What a wrong function does.
-#[derive(Clone, Copy, Debug)]
-enum Wrong {
-    ReadTakesOneMore,
-    ReadNamesAnotherKind,
-    ReadPutsKindAfterLength,
-    ReadPassesSpecular,
-    ReadSetsAHighBit,
-    WriteClearsTheByteBehind,
-    WriteWritesOnRefusal,
-    WriteAnswersAnotherNumber,
-    WriteLeavesTheLastByte,
-    ApplyForgetsTheEntry,
-    ApplyForgetsTheOthers,
-    ApplyHoldsOnRefusal,
-    ApplyClearsABadPart,
-    ApplyTakesAnyLength,
-    ApplyClearsTheByteBehind,
-    ApplyWritesAnotherByte,
-    ApplyWritesOnRefusal,
-    ApplyDropsTheMask,
-    ApplyDropsWhatItTook,
-    ApplyAnswers1For7,
-    ApplyAnswersNoRoomEarly,
-}
-
-impl Wrong {
-    const ALL: [Self; 21] = [
-        Self::ReadTakesOneMore,
-        Self::ReadNamesAnotherKind,
-        Self::ReadPutsKindAfterLength,
-        Self::ReadPassesSpecular,
-        Self::ReadSetsAHighBit,
-        Self::WriteClearsTheByteBehind,
-        Self::WriteWritesOnRefusal,
-        Self::WriteAnswersAnotherNumber,
-        Self::WriteLeavesTheLastByte,
-        Self::ApplyForgetsTheEntry,
-        Self::ApplyForgetsTheOthers,
-        Self::ApplyHoldsOnRefusal,
-        Self::ApplyClearsABadPart,
-        Self::ApplyTakesAnyLength,
-        Self::ApplyClearsTheByteBehind,
-        Self::ApplyWritesAnotherByte,
-        Self::ApplyWritesOnRefusal,
-        Self::ApplyDropsTheMask,
-        Self::ApplyDropsWhatItTook,
-        Self::ApplyAnswers1For7,
-        Self::ApplyAnswersNoRoomEarly,
-    ];
-}
-
-/// Whether the comparison finds a wrong function.
-fn found(wrong: Wrong) -> bool {
-    let mut run = Run::new(&wrong, SEED);
-    run.shown = 0;
-    run.streams(SELF_TEST);
-    run.differences != 0
-}
-
-const fn refusal(answer: u64) -> u64 {
-    answer & 255
-}
-
-fn spoil(byte: Option<&mut u8>) {
-    if let Some(byte) = byte {
-        *byte ^= 1;
-    }
-}
-
-impl Functions for Wrong {
-    fn read(&self, bytes: &[u8]) -> u64 {
-        let answer = Archive.read(bytes);
-        match self {
-            Self::ReadTakesOneMore if refusal(answer) == 0 => answer + 0x1_0000,
-            Self::ReadNamesAnotherKind if answer == 0x22_0300 => 0x22_0200,
-            Self::ReadPutsKindAfterLength if answer == 2 && bytes.len() < 20 => 1,
-            Self::ReadPassesSpecular if answer == 4 => 0x3b_0100,
-            Self::ReadSetsAHighBit => answer | 1 << 63,
-            _ => answer,
-        }
-    }
-
-    fn write(&self, record: &[u8], out: &mut [u8]) -> u64 {
-        let before = out.to_vec();
-        let answer = Archive.write(record, out);
-        let taken = (answer >> 16 & 255) as usize;
-        match self {
-            Self::WriteClearsTheByteBehind if taken != 0 => spoil(out.get_mut(taken)),
-            Self::WriteWritesOnRefusal if answer == 8 => spoil(out.first_mut()),
-            Self::WriteAnswersAnotherNumber if answer == 8 => return 1,
-            Self::WriteLeavesTheLastByte if taken != 0 => out[taken - 1] = before[taken - 1],
-            _ => {}
-        }
-        answer
-    }
-
-    fn apply(&self, held: &mut [u8], bytes: &[u8], text: &mut [u8]) -> u64 {
-        let before = held.to_vec();
-        let answer = Archive.apply(held, bytes, text);
-        let refused = refusal(answer) != 0;
-        let length = (answer >> 40 & 0xffff) as usize;
-        match self {
-            Self::ApplyForgetsTheEntry if answer >> 56 == 34 => held.copy_from_slice(&before),
-            Self::ApplyForgetsTheOthers if answer >> 56 == 20 => held[..KEY_LENGTH].fill(0),
-            Self::ApplyHoldsOnRefusal if refused => spoil(held.first_mut()),
-            Self::ApplyClearsABadPart if held.len() == HELD_LENGTH => {
-                held.copy_from_slice(&held_bytes(&held_of(held)));
-            }
-            Self::ApplyTakesAnyLength if held.len() > HELD_LENGTH => {
-                return Archive.apply(&mut held[..HELD_LENGTH], bytes, text);
-            }
-            Self::ApplyClearsTheByteBehind if length != 0 => spoil(text.get_mut(length)),
-            Self::ApplyWritesAnotherByte if length != 0 => spoil(text.get_mut(length - 1)),
-            Self::ApplyWritesOnRefusal if refused => spoil(text.last_mut()),
-            Self::ApplyDropsTheMask => return answer & !0xff00 | refusal(answer),
-            Self::ApplyDropsWhatItTook if length != 0 => return answer & !(0xff << 56),
-            Self::ApplyAnswers1For7 if answer == 7 => return 1,
-            Self::ApplyAnswersNoRoomEarly if length != 0 && text.len() == length => return 8,
-            _ => {}
-        }
-        answer
     }
 }
