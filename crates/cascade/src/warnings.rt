@@ -55,30 +55,42 @@ fn applies_alpha(s: Stage) -> bool
     !is_bump(s) & (alpha_written(s) & !falls_back(textured(s), a))
 }
 
-// A cause that colour's combiner or alpha's gives counts where the stage applies that combiner.
+// A cause that a combiner gives counts where the stage applies that combiner.
 fn counts(s: Stage, colour: bool, alpha: bool) -> bool
     ensures { λ r. ⌜ r ≡ (appliesColour s && colour) || (appliesAlpha s && alpha) ⌝ }
 {
-    if !(colour | alpha) {
-        return false;
-    }
     (applies_colour(s) & colour) | (applies_alpha(s) & alpha)
 }
 
 pub(crate) fn warns_op(s: Stage) -> bool
     ensures { λ r. ⌜ r ≡ warns withoutText s ⌝ }
 {
-    counts(s, without_text(s.colour), without_text(s.alpha))
+    let colour = without_text(s.colour);
+    let alpha = without_text(s.alpha);
+    if !(colour | alpha) {
+        return false;
+    }
+    counts(s, colour, alpha)
 }
 
 pub(crate) fn warns_selector(s: Stage) -> bool
     ensures { λ r. ⌜ r ≡ warns (either unknownSelector) s ⌝ }
 {
-    counts(s, unknown_selector(s.colour), unknown_selector(s.alpha))
+    let colour = unknown_selector(s.colour);
+    let alpha = unknown_selector(s.alpha);
+    if !(colour | alpha) {
+        return false;
+    }
+    counts(s, colour, alpha)
 }
 
 pub(crate) fn warns_modifier(s: Stage) -> bool
     ensures { λ r. ⌜ r ≡ warns (either unknownModifier) s ⌝ }
 {
-    counts(s, unknown_modifier(s.colour), unknown_modifier(s.alpha))
+    let colour = unknown_modifier(s.colour);
+    let alpha = unknown_modifier(s.alpha);
+    if !(colour | alpha) {
+        return false;
+    }
+    counts(s, colour, alpha)
 }
