@@ -25,7 +25,7 @@ use Rattle.records.specs.declared.ApplyAnswer.{ApplyAnswer}
 use Rattle.records.specs.declared.ApplyAnswer.the-variants.{Replaced, Text, Refused}
 use Rattle.records.specs.declared.Applied.{Applied}
 
-unfoldable pub nothingHeld : Held
+abbrev pub nothingHeld : Held
 nothingHeld =
     record { «has_key» = false; key = blankKey; «has_variant» = false; variant = blankVariant; «has_entry» = false; entry = blankEntry }
 

@@ -1,7 +1,8 @@
 -- What was read says which case of `applied` holds.
 use mathlib.Core.Path.{refl, _∙_}
 use borrow.Author.Needs.{needs}
-use Rattle.records.proofs.Cases.{apply-refused, apply-replaced, apply-emit, replaces, applied-number}
+use Rattle.records.proofs.Cases.{apply-refused, apply-replaced, apply-emit, replaces}
+use Rattle.records.proofs.Answers.{applied-number}
 use Rattle.records.proofs.apply.Statement.{statement}
 use Rattle.records.proofs.apply.Tie as tie
 
@@ -18,9 +19,9 @@ returns-2 c =
     let s2 = c .before .before in
     let s1 = s2 .before .before in
     let a =
-        e
-        ∙ apply-replaced _ _ _ (s1 .before .before .before .read .ensures .0) (s1 .answer2 .given .1)
-        (replaces _ _ _ _ (s2 .match2 .keys1)) (c .before .hold .ensures)
+    e
+    ∙ apply-replaced _ _ _ (s1 .before .before .before .read .ensures .0) (s1 .answer2 .given .1)
+    (replaces _ _ _ _ (s2 .match2 .keys1)) (c .before .hold .ensures)
     in
     (a, (rw e, (rw e tt, applied-number _ _ _ a)))
 
