@@ -8,13 +8,22 @@ ghost use lib.Dec.{eqb, leb};
 ghost use Rattle.values.specs.Flags.{stageFlagsBad, variantFlagsBad};
 ghost use Rattle.values.specs.Entries.{continuesName, entryGood, isLetter, startsName};
 
+const STAGES: usize = 8;
+
+const NAME_BYTES: u8 = 32;
+
+// The lowest flag bit without a meaning: bit 2 of a stage, bit 6 of a variant.
+const UNUSED_STAGE_FLAG: u8 = 4;
+
+const UNUSED_VARIANT_FLAG: u8 = 64;
+
 pub fn stage_flags_bad(key: Key) -> bool
     ensures { λ r. ⌜ r ≡ stageFlagsBad (key .stages) ⌝ }
 {
     let mut i = 0;
-    while i < 8 {
+    while i < STAGES {
         let s = key.stages[i];
-        if 4 <= s.flags {
+        if UNUSED_STAGE_FLAG <= s.flags {
             return true;
         }
         i += 1;
@@ -25,7 +34,7 @@ pub fn stage_flags_bad(key: Key) -> bool
 pub fn variant_flags_bad(variant: Variant) -> bool
     ensures { λ r. ⌜ r ≡ variantFlagsBad variant ⌝ }
 {
-    64 <= variant.flags
+    UNUSED_VARIANT_FLAG <= variant.flags
 }
 
 fn between(low: u8, c: u8, high: u8) -> bool
@@ -67,7 +76,7 @@ pub fn entry_good(entry: Entry) -> bool
     if entry.len == 0 {
         return false;
     }
-    if 32 < entry.len {
+    if NAME_BYTES < entry.len {
         return false;
     }
     if !starts_name(name[0]) {
@@ -75,7 +84,7 @@ pub fn entry_good(entry: Entry) -> bool
     }
     let mut good = true;
     let mut i = 0u8;
-    while i < 32 {
+    while i < NAME_BYTES {
         good = good & stands(i < entry.len, name[i as usize]);
         i += 1;
     }

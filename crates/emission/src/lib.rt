@@ -12,25 +12,31 @@ pub use values::Key;
 pub use values::Refusal;
 pub use values::Stage;
 pub use values::Variant;
-ghost use Prim.Native.Nat.{_≤_, _+_};
+ghost use Prim.Native.Nat.{_≤_, _<_, _+_};
 ghost use mathlib.Core.Path.{_≡_};
-ghost use mathlib.Core.Bool.{cond};
-ghost use lib.Dec.{leb};
-ghost use mathlib.Core.List.{_++_};
-ghost use lib.ListN.{length, drop};
+ghost use lib.ListN.{length};
 ghost use Rattle.cascade.specs.Keys.{active};
 ghost use Rattle.cascade.specs.Reading.{lookupsOf};
 ghost use Rattle.cascade.specs.Survey.{surveyOf};
-ghost use Rattle.shader.specs.Results.{answerOf, bufferAfter, frontOf, textOf};
+ghost use Rattle.shader.specs.Results.{alphaWarning, answerNumber, answerOf, bufferAfter, emissionNumber, frontOf, inFront, textOf};
 ghost use Rattle.shader.specs.Demand.{Demanded};
+ghost use Rattle.values.specs.Admitted.{Admitted};
 
-// An alpha function above 8 warns too.
+// D3DCMP_ALWAYS, the last comparison that Direct3D 9 names.
+const ALWAYS: u8 = 8;
+
+const ALPHA_FUNC_WARNING: u8 = 8;
+
+// No text is longer.
+const MOST_TEXT: usize = 16384;
+
+// An alpha function that Direct3D 9 does not name warns too.
 fn warning_of(stages: u8, alpha_func: u8) -> u8
     requires { ⌜ stages ≤ 7 ⌝ }
-    ensures { λ r. ⌜ r ≡ stages + cond (leb 9 «alpha_func») 8 0 ⌝ }
+    ensures { λ r. ⌜ r ≡ stages + alphaWarning «alpha_func» ⌝ }
 {
-    if 9 <= alpha_func {
-        return stages + 8;
+    if ALWAYS < alpha_func {
+        return stages + ALPHA_FUNC_WARNING;
     }
     stages
 }
@@ -40,13 +46,14 @@ fn warning_of(stages: u8, alpha_func: u8) -> u8
 fn put_text(out: &mut [u8], k: Key, v: Variant, e: Entry, u: Survey) -> Place
     requires { ⌜ (u ≡ surveyOf (k .stages)) × (e .len ≤ 32) ⌝ }
     ensures place { λ r. ⌜ r .at ≡ length (textOf k v e) ⌝ }
-    ensures buffer { λ _. ⌜ now (out .exit) ≡ cond (leb (length (textOf k v e)) (length (now (out .entry)))) (textOf k v e ++ drop (length (textOf k v e)) (now (out .entry))) (now (out .entry)) ⌝ }
+    ensures fits { λ _. ⌜ (length (textOf k v e) ≤ length (now (out .entry)) → now (out .exit) ≡ inFront (textOf k v e) (now (out .entry))) ⌝ }
+    ensures over { λ _. ⌜ (length (now (out .entry)) < length (textOf k v e) → now (out .exit) ≡ now (out .entry)) ⌝ }
     ensures lookups { λ r. ⌜ r .lookups ≡ lookupsOf (u .live) (active (k .stages)) ⌝ }
 {
-    if 16384 <= out.len() {
+    if MOST_TEXT <= out.len() {
         return put_whole(out, k, v, e, u);
     }
-    let mut aside = [0u8; 16384];
+    let mut aside = [0u8; MOST_TEXT];
     let w = put_whole(&mut aside, k, v, e, u);
     if w.at <= out.len() {
         put(out, 0, &aside[..w.at]);
@@ -54,21 +61,14 @@ fn put_text(out: &mut [u8], k: Key, v: Variant, e: Entry, u: Survey) -> Place
     w
 }
 
-// Writes the text of a key, a variant and an entry to the front of out; bytes behind it stay. A refusal leaves out as it was.
-pub fn emit(key: Key, variant: Variant, entry: Entry, out: &mut [u8]) -> Answer
+// Writes the text of values that are free of the causes 3, 5 and 6 to the front of out, without checking them again.
+pub fn emit_checked(key: Key, variant: Variant, entry: Entry, out: &mut [u8]) -> Answer
+    requires { ⌜ Admitted key variant entry ⌝ }
     ensures answer { λ r. ⌜ r ≡ answerOf key variant entry (length (now (out .entry))) ⌝ }
     ensures buffer { λ r. ⌜ now (out .exit) ≡ bufferAfter r (textOf key variant entry) (now (out .entry)) ⌝ }
-    ensures names { λ r. ⌜ Demanded r (now (out .exit)) ⌝ }
+    ensures names { λ r. ⌜ Demanded key r (now (out .exit)) ⌝ }
+    ensures number { λ r. ⌜ answerNumber r ≡ emissionNumber key variant entry (length (now (out .entry))) ⌝ }
 {
-    if admission::stage_flags_bad(key) {
-        return Answer::Refused(Refusal::StageFlags);
-    }
-    if admission::variant_flags_bad(variant) {
-        return Answer::Refused(Refusal::VariantFlags);
-    }
-    if !admission::entry_good(entry) {
-        return Answer::Refused(Refusal::EntryName);
-    }
     let u = survey(key);
     let written = put_text(out, key, variant, entry, u);
     if out.len() < written.at {
@@ -84,9 +84,39 @@ pub fn emit(key: Key, variant: Variant, entry: Entry, out: &mut [u8]) -> Answer
     })
 }
 
+// Writes the text of a key, a variant and an entry to the front of out; bytes behind it stay. A refusal leaves out as it was.
+pub fn emit(key: Key, variant: Variant, entry: Entry, out: &mut [u8]) -> Answer
+    ensures answer { λ r. ⌜ r ≡ answerOf key variant entry (length (now (out .entry))) ⌝ }
+    ensures buffer { λ r. ⌜ now (out .exit) ≡ bufferAfter r (textOf key variant entry) (now (out .entry)) ⌝ }
+    ensures names { λ r. ⌜ Demanded key r (now (out .exit)) ⌝ }
+    ensures number { λ r. ⌜ answerNumber r ≡ emissionNumber key variant entry (length (now (out .entry))) ⌝ }
+{
+    if admission::stage_flags_bad(key) {
+        return Answer::Refused(Refusal::StageFlags);
+    }
+    if admission::variant_flags_bad(variant) {
+        return Answer::Refused(Refusal::VariantFlags);
+    }
+    if !admission::entry_good(entry) {
+        return Answer::Refused(Refusal::EntryName);
+    }
+    emit_checked(key, variant, entry, out)
+}
+
+// The number of an answer: 0 for a text.
+pub fn number(answer: Answer) -> u8
+    ensures { λ r. ⌜ r ≡ answerNumber answer ⌝ }
+{
+    match answer {
+        Answer::Text(_) => 0,
+        Answer::Refused(refusal) => values::number(refusal),
+    }
+}
+
 // The written front of a buffer, for the length that emission answered; empty for a length beyond the buffer.
 pub fn front(buf: &mut [u8], len: usize) -> &mut [u8]
-    ensures { λ r. ⌜ now r ≡ frontOf (now (buf .entry)) len ⌝ }
+    ensures bytes { λ r. ⌜ now r ≡ frontOf (now (buf .entry)) len ⌝ }
+    ensures place { λ r. ⌜ r .ptr ≡ buf .entry .ptr ⌝ }
 {
     if len <= buf.len() {
         &mut buf[..len]

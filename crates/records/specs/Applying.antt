@@ -3,13 +3,16 @@
 use Prim.Native.Nat.{ℕ}
 use mathlib.Core.Bool.{Bool, true, false, _&&_, cond}
 use mathlib.Core.List.{List}
-use Rattle.shader.specs.Results.{textOf, answerOf}
-use Rattle.shader.specs.Results as emission
-use Rattle.shader.specs.Demand as demand
+use lib.Dec.{eqb}
+use lib.ListN.{getD}
+use Rattle.values.specs.Refusals.{numberOf}
+use Rattle.shader.specs.Results.{textOf, answerOf, bufferAfter, emissionNumber}
+use Rattle.shader.specs.Demand.{Demanded}
 use Rattle.values.specs.declared.Answer.{Answer}
 use Rattle.values.specs.declared.Answer.the-variants as emission-answer
-use Rattle.wire.specs.Values.{blank}
-use Rattle.wire.specs.Reading.{readRecord}
+use Rattle.wire.specs.Values.{blankKey, blankVariant, blankEntry}
+use Rattle.wire.specs.Bodies.{kindByte}
+use Rattle.wire.specs.Reading.{readRecord, recordNumber}
 use Rattle.wire.specs.declared.Kind.{Kind}
 use Rattle.wire.specs.declared.Kind.the-variants as kind
 use Rattle.wire.specs.declared.Record.{Record}
@@ -22,16 +25,9 @@ use Rattle.records.specs.declared.ApplyAnswer.{ApplyAnswer}
 use Rattle.records.specs.declared.ApplyAnswer.the-variants.{Replaced, Text, Refused}
 use Rattle.records.specs.declared.Applied.{Applied}
 
-unfoldable pub nothingHeld : Held
+abbrev pub nothingHeld : Held
 nothingHeld =
-    record {
-      «has_key» = false;
-      key = blank kind.Emit .key;
-      «has_variant» = false;
-      variant = blank kind.Emit .variant;
-      «has_entry» = false;
-      entry = blank kind.Emit .entry;
-    }
+    record { «has_key» = false; key = blankKey; «has_variant» = false; variant = blankVariant; «has_entry» = false; entry = blankEntry }
 
 -- 7: "emit before key, variant and entry"
 abbrev pub holdsAll : Held → Bool
@@ -83,7 +79,7 @@ heldAfter (Refused c) r h = h
 
 abbrev pub textAfter : ApplyAnswer → Held → List ℕ → List ℕ
 textAfter (Replaced n) h out = out
-textAfter (Text n e) h out = emission.bufferAfter (emission-answer.Text e) (textOf (h .key) (h .variant) (h .entry)) out
+textAfter (Text n e) h out = bufferAfter (emission-answer.Text e) (textOf (h .key) (h .variant) (h .entry)) out
 textAfter (Refused c) h out = out
 
 -- what applying the record at the front of b answers, and what is held then
@@ -91,7 +87,24 @@ abbrev pub applied : Held → List ℕ → ℕ → Applied
 applied h b room = record { answer = applyAnswer h b room; held = heldAfter (applyAnswer h b room) (readRecord b .found) h }
 
 -- demand 3 of an accepted emit record, and of the bytes that the buffer then holds, is that of emission
-abbrev pub Demanded : ApplyAnswer → List ℕ → Type 0
-Demanded (Replaced n) out = Unit {0}
-Demanded (Text n e) out = demand.Demanded (emission-answer.Text e) out
-Demanded (Refused c) out = Unit {0}
+abbrev pub AppliedDemand3 : Held → ApplyAnswer → List ℕ → Type 0
+AppliedDemand3 h (Replaced n) out = Unit {0}
+AppliedDemand3 h (Text n e) out = Demanded (h .key) (emission-answer.Text e) out
+AppliedDemand3 h (Refused c) out = Unit {0}
+
+-- The numbers of 01's table.
+
+-- of an answer: 0 for a record that is accepted
+abbrev pub applyNumber : ApplyAnswer → ℕ
+applyNumber (Replaced n) = 0
+applyNumber (Text n e) = 0
+applyNumber (Refused c) = numberOf c
+
+-- of an emit record: 7, then emission's 3, 5, 6 and 8, in that order; 0 where none of them holds
+unfoldable pub emitNumber : Held → ℕ → ℕ
+emitNumber h room = cond (holdsAll h) (emissionNumber (h .key) (h .variant) (h .entry) room) 7
+
+-- of some bytes: the reader's 2, 1, 3, 4, 5 and 6, and behind them those of an emit record; 0 where none of them holds
+unfoldable pub appliedNumber : Held → List ℕ → ℕ → ℕ
+appliedNumber h b room =
+    cond (eqb (recordNumber b) 0) (cond (eqb (getD b 0 0) (kindByte kind.Emit)) (emitNumber h room) 0) (recordNumber b)
