@@ -41,7 +41,9 @@ placed-parts (suc n) [] = refl
 placed-parts (suc n) (c ∷ r) = rw (placed-parts n r) (and-assoc (continuesName c) (all continuesName (take n r)) (all (λ c. eqb c 0) (drop n r)))
 
 -- the next byte
-pub placed-next : (n i : ℕ) (l : List ℕ) → i < length l → placed (n - i) (drop i l) ≡ (cond (ltb i n) (continuesName (getD l i 0)) (eqb (getD l i 0) 0) && placed (n - (i + 1)) (drop (i + 1) l))
+pub placed-next : (n i : ℕ) (l : List ℕ) → i < length l
+    → placed (n - i) (drop i l)
+    ≡ (cond (ltb i n) (continuesName (getD l i 0)) (eqb (getD l i 0) 0) && placed (n - (i + 1)) (drop (i + 1) l))
 placed-next n i l h = rw (drop-cons l i 0 h, add-one i) (by-cases (decLe (suc i) n) inside behind)
   where
     c : ℕ

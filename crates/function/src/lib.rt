@@ -12,7 +12,8 @@ use text::put;
 use values::Entry;
 use values::Key;
 use values::Variant;
-use variants::bits::point_sprite;
+use variants::bits::POINT_SPRITE;
+use variants::bits::flag;
 ghost use Prim.Native.Nat.{_≤_};
 ghost use mathlib.Core.Path.{_≡_};
 ghost use Rattle.text.specs.Buffer.{Wrote};
@@ -37,7 +38,7 @@ pub fn put_whole(out: &mut [u8], k: Key, v: Variant, e: Entry, u: Survey) -> Pla
     let a = put_front(out, 0, v);
     let b = put(out, a, &name[..end]);
     let c = put_parameters(out, b, k, v, u);
-    let d = put_sprite(out, c, point_sprite(v));
+    let d = put_sprite(out, c, flag(v, POINT_SPRITE));
     let l = put_locals(out, d, u.live);
     let p = put_stages(out, l, k, v, u);
     let r = put_output(out, p.at, k.specular_add, v);

@@ -64,10 +64,14 @@ emissionNumber k v e room =
     (cond (not (entryGood e)) 6
     (cond (ltb room (length (textOf k v e))) 8 0)))
 
--- 01: "The text begins the lent buffer; bytes behind it stay." A refusal leaves all.
+-- 01: "The text begins the lent buffer; bytes behind it stay."
+abbrev pub inFront : List ℕ → List ℕ → List ℕ
+inFront text out = text ++ drop (length text) out
+
+-- A refusal leaves all.
 abbrev pub bufferAfter : Answer → List ℕ → List ℕ → List ℕ
 bufferAfter (Refused r) text out = out
-bufferAfter (Text m) text out = text ++ drop (length text) out
+bufferAfter (Text m) text out = inFront text out
 
 -- 01: "the written front of that buffer, an empty part for a length beyond it"
 abbrev pub frontOf : List ℕ → ℕ → List ℕ

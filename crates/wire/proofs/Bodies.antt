@@ -15,7 +15,7 @@ use Rattle.values.specs.declared.Variant.{Variant}
 use Rattle.values.specs.declared.Entry.{Entry}
 use Rattle.wire.specs.Bodies.{bodyLength, recordLength, stagesBytes, keyBytes, variantBytes, entryBytes, bodyBytes, recordBytes}
 use Rattle.wire.specs.Bodies.{specularByte, stagesFromBytes, keyFromBody, maskAt, variantFromBody, entryFromBody}
-use Rattle.wire.specs.Values.{blankKey, blankEntry}
+use Rattle.wire.specs.Values.{blankKey, blankEntry, keyRecord, variantRecord, entryRecord, emitRecord}
 use Rattle.wire.specs.declared.Kind.{Kind}
 use Rattle.wire.specs.declared.Kind.the-variants as kind
 use Rattle.wire.specs.declared.Record.{Record}
@@ -59,13 +59,25 @@ body-length kind.Emit r h = refl
 pub record-length : (r : Record) → Shaped r → length (recordBytes r) ≡ recordLength (r .kind)
 record-length r h = omega (arith, body-length (r .kind) r h)
 
-pub stages-blank : length (blankKey .stages) ≡ 8
+stages-blank : length (blankKey .stages) ≡ 8
 unfolding blankKey
 stages-blank = refl
 
-pub name-blank : length (blankEntry .name) ≡ 32
+name-blank : length (blankEntry .name) ≡ 32
 unfolding blankEntry
 name-blank = refl
+
+pub key-shaped : (k : Key) → length (k .stages) ≡ 8 → Shaped (keyRecord k)
+key-shaped k h = record { stages = h; name = name-blank }
+
+pub variant-shaped : (v : Variant) → Shaped (variantRecord v)
+variant-shaped v = record { stages = stages-blank; name = name-blank }
+
+pub entry-shaped : (e : Entry) → length (e .name) ≡ 32 → Shaped (entryRecord e)
+entry-shaped e h = record { stages = stages-blank; name = h }
+
+pub emit-shaped : Shaped emitRecord
+emit-shaped = record { stages = stages-blank; name = name-blank }
 
 pub stages-count : (n : ℕ) (b : List ℕ) → length (stagesFromBytes n b) ≡ n
 unfolding stagesFromBytes

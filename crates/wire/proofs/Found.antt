@@ -1,12 +1,12 @@
 -- What was read, by cases: a refusal with its number, or a record of one of the kinds with all that is known of it.
-use mathlib.Core.Path.{_≡_, refl, sym}
-use mathlib.Core.Bool.{Bool, true, false, cond}
-use mathlib.Core.List.{List, [], _∷_}
+use mathlib.Core.Path.{_≡_, refl, sym, ap, _∙_}
+use mathlib.Core.Bool.{cond}
+use mathlib.Core.List.{List, [], _∷_, _++_}
 use Prim.Native.Nat.{ℕ, suc, _≤_}
 use native.Mathlib.Omega.{arith}
 use borrow.Author.Tests.{eqb-true, ltb-false}
 use lib.Dec.{eqb, ltb}
-use lib.ListN.{length, take, getD}
+use lib.ListN.{length, take, drop, getD, take-append-drop}
 use Rattle.values.specs.Refusals.{numberOf}
 use Rattle.values.specs.Flags.{stageFlagsBad, variantFlagsBad}
 use Rattle.values.specs.Entries.{entryGood}
@@ -23,7 +23,8 @@ use Rattle.wire.specs.declared.Kind.the-variants as kind
 use Rattle.wire.specs.declared.Record.{Record}
 use Rattle.wire.specs.declared.ReadAnswer.the-variants.{Took}
 use Rattle.wire.specs.declared.Reading.{Reading}
-use Rattle.wire.proofs.Bodies.{Shaped, Bytes, Free, stages-blank, name-blank, stages-count, name-length, key-again, variant-again, entry-again}
+use Rattle.wire.proofs.Laws.{either}
+use Rattle.wire.proofs.Bodies.{Shaped, Bytes, Free, key-shaped, variant-shaped, entry-shaped, emit-shaped, stages-count, name-length, key-again, variant-again, entry-again}
 
 -- what is known of the record that was taken from the front of b
 pub record Taken (b : List ℕ) (r : Record) : Type 0 where
@@ -43,18 +44,13 @@ pub record Cases (P : Reading → Type 0) (b : List ℕ) : Type 0 where
   pub emit : Taken b emitRecord → P (took emitRecord)
 
 -- What is read and its number come of the same tests, so that both are known at the end of each way through them.
-module _ (Q : ℕ → Reading → Type 0) where
-  either : (t : Bool) (m n : ℕ) (x y : Reading) → (t ≡ true → Q m x) → (t ≡ false → Q n y) → Q (cond t m n) (cond t x y)
-  either true m n x y p q = p refl
-  either false m n x y p q = q refl
-
-  by-kind : (x : ℕ) (f : Kind → ℕ) (u : ℕ) (g : Kind → Reading) (v : Reading) → ((k : Kind) → x ≡ kindByte k → Q (f k) (g k)) → Q u v →
-      Q (byKind x f u) (byKind x g v)
-  by-kind x f u g v p q =
-      either (eqb x 1) _ _ _ _ (λ e. p kind.Key (eqb-true _ _ e)) (λ _.
-      either (eqb x 2) _ _ _ _ (λ e. p kind.Variant (eqb-true _ _ e)) (λ _.
-      either (eqb x 3) _ _ _ _ (λ e. p kind.Entry (eqb-true _ _ e)) (λ _.
-      either (eqb x 4) _ _ _ _ (λ e. p kind.Emit (eqb-true _ _ e)) (λ _. q))))
+by-kind : (Q : ℕ → Reading → Type 0) (x : ℕ) (f : Kind → ℕ) (u : ℕ) (g : Kind → Reading) (v : Reading) →
+    ((k : Kind) → x ≡ kindByte k → Q (f k) (g k)) → Q u v → Q (byKind x f u) (byKind x g v)
+by-kind Q x f u g v p q =
+    either Q (eqb x 1) _ _ _ _ (λ e. p kind.Key (eqb-true _ _ e)) (λ _.
+    either Q (eqb x 2) _ _ _ _ (λ e. p kind.Variant (eqb-true _ _ e)) (λ _.
+    either Q (eqb x 3) _ _ _ _ (λ e. p kind.Entry (eqb-true _ _ e)) (λ _.
+    either Q (eqb x 4) _ _ _ _ (λ e. p kind.Emit (eqb-true _ _ e)) (λ _. q))))
 
 -- what is known of a record whose body stands at the front of b
 taken : (x : ℕ) (b : List ℕ) (r : Record) → recordNumber (x ∷ b) ≡ 0 → x ≡ kindByte (r .kind) → bodyLength (r .kind) ≤ length b →
@@ -73,20 +69,17 @@ module _ (P : Reading → Type 0) (x : ℕ) (b : List ℕ) (cases : Cases P (x �
       either Q (stageFlagsBad (keyFromBody b .stages)) _ _ _ _ (λ _. cases .refusal StageFlags) (λ f.
       either Q (ltb 1 (specularByte b)) _ _ _ _ (λ _. cases .refusal SpecularAdd) (λ s n.
       cases .key (keyFromBody b)
-      (taken x b (keyRecord (keyFromBody b)) n e h (record { stages = stages-count 8 b; name = name-blank }) f
-      (λ w. key-again b h (ltb-false _ _ s)))))
+      (taken x b (keyRecord (keyFromBody b)) n e h (key-shaped _ (stages-count 8 b)) f (λ w. key-again b h (ltb-false _ _ s)))))
   body-cases kind.Variant e h =
       either Q (variantFlagsBad (variantFromBody b)) _ _ _ _ (λ _. cases .refusal VariantFlags) (λ f n.
       cases .variant (variantFromBody b)
-      (taken x b (variantRecord (variantFromBody b)) n e h (record { stages = stages-blank; name = name-blank }) f
-      (λ w. variant-again b w h)))
+      (taken x b (variantRecord (variantFromBody b)) n e h (variant-shaped _) f (λ w. variant-again b w h)))
   body-cases kind.Entry e h =
       either Q (entryGood (entryFromBody b)) _ _ _ _ (λ f n.
       cases .entry (entryFromBody b)
-      (taken x b (entryRecord (entryFromBody b)) n e h (record { stages = stages-blank; name = name-length b h }) f
-      (λ w. entry-again b h)))
+      (taken x b (entryRecord (entryFromBody b)) n e h (entry-shaped _ (name-length b h)) f (λ w. entry-again b h)))
       (λ _. cases .refusal EntryName)
-  body-cases kind.Emit e h = λ n. cases .emit (taken x b emitRecord n e h (record { stages = stages-blank; name = name-blank }) tt (λ w. refl))
+  body-cases kind.Emit e h = λ n. cases .emit (taken x b emitRecord n e h emit-shaped tt (λ w. refl))
 
   as-cases : (k : Kind) → x ≡ kindByte k → Q (cond (ltb (length b) (bodyLength k)) 1 (bodyNumber k b)) (readAs k b)
   unfolding readAs
@@ -122,3 +115,13 @@ read-taken b n =
     read-either (λ (x : Reading). x .answer ≡ Took n → Taken b (x .found) × (recordLength (x .found .kind) ≡ n)) b
     (λ c k e. absurd (let z : _≡_ {A = ℕ} 0 1 = cc in omega arith))
     (λ r t e. (t, cc))
+
+-- A record that was read, or the blank one of a refusal, has the shape of its type.
+pub read-shaped : (b : List ℕ) → Shaped (readRecord b .found)
+read-shaped b = read-either (λ (x : Reading). Shaped (x .found)) b (λ c n. emit-shaped) (λ r t. t .shaped)
+
+-- The bytes are those of the record that was taken, and what stands behind them.
+pub front : (b : List ℕ) (r : Record) → Taken b r → Bytes b → b ≡ recordBytes r ++ drop (recordLength (r .kind)) b
+front b r t w =
+    let n = recordLength (r .kind) in
+    sym (take-append-drop n b) ∙ ap (λ (l : List ℕ). l ++ drop n b) (sym (t .bytes w))

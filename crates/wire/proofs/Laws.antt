@@ -1,6 +1,6 @@
--- Which case of reader and writer holds, and one more stage or byte in their loops.
+-- Which case of the reader holds, and one more stage or byte in the loops.
 use mathlib.Core.Path.{_≡_, refl, sym, ap, _∙_}
-use mathlib.Core.Bool.{Bool, cond}
+use mathlib.Core.Bool.{Bool, true, false, cond}
 use mathlib.Core.List.{List, [], _∷_, _++_, append-assoc, append-nil}
 use Prim.Native.Nat.{ℕ, suc, _+_, _-_, _*_, _≤_, _<_}
 use native.Mathlib.Numerals.{add-one}
@@ -14,6 +14,11 @@ use Rattle.wire.specs.Bodies.{kindByte, bodyLength, stageBytes, stagesBy
 use Rattle.wire.specs.Reading.{byKind, refused, readBody, readAs, readRecord}
 use Rattle.wire.specs.declared.Kind.{Kind}
 use Rattle.wire.specs.declared.Kind.the-variants as kind
+
+-- an answer and its number that come of the same test
+pub either : {A : Type 0} (Q : ℕ → A → Type 0) (t : Bool) (m n : ℕ) (x y : A) → (t ≡ true → Q m x) → (t ≡ false → Q n y) → Q (cond t m n) (cond t x y)
+either Q true m n x y p q = p refl
+either Q false m n x y p q = q refl
 
 -- one more stage read
 pub stage-more : (b : List ℕ) (l : List Stage) (i m : ℕ) → i < length l →

@@ -19,7 +19,7 @@ use Rattle.wire.specs.declared.Record.{Record}
 use Rattle.wire.specs.declared.Reading.{Reading}
 use Rattle.wire.specs.declared.ReadAnswer.the-variants.{Took}
 use Rattle.wire.specs.declared.WriteAnswer.the-variants.{Wrote}
-use Rattle.wire.proofs.Bodies.{Shaped, Bytes, Free, stages-blank, name-blank, body-length, key-back, specular-back, variant-back, entry-back}
+use Rattle.wire.proofs.Bodies.{Shaped, Bytes, Free, key-shaped, variant-shaped, entry-shaped, emit-shaped, body-length, key-back, specular-back, variant-back, entry-back}
 use Rattle.wire.proofs.Laws.{known}
 use Rattle.wire.proofs.Found.{read-cases, read-taken}
 use Rattle.wire.proofs.Written.{fits-writes, wrote}
@@ -94,16 +94,16 @@ written-reads-back r m h out n a =
 
 -- so a key, a variant, an entry and a request for a text do
 pub key-reads-back : (k : Key) → length (k .stages) ≡ 8 → ReadsBack (keyRecord k)
-key-reads-back k h = written-reads-back (keyRecord k) (key k) (record { stages = h; name = name-blank })
+key-reads-back k h = written-reads-back (keyRecord k) (key k) (key-shaped k h)
 
 pub variant-reads-back : (v : Variant) → ReadsBack (variantRecord v)
-variant-reads-back v = written-reads-back (variantRecord v) (variant v) (record { stages = stages-blank; name = name-blank })
+variant-reads-back v = written-reads-back (variantRecord v) (variant v) (variant-shaped v)
 
 pub entry-reads-back : (e : Entry) → length (e .name) ≡ 32 → ReadsBack (entryRecord e)
-entry-reads-back e h = written-reads-back (entryRecord e) (entry e) (record { stages = stages-blank; name = h })
+entry-reads-back e h = written-reads-back (entryRecord e) (entry e) (entry-shaped e h)
 
 pub emit-reads-back : ReadsBack emitRecord
-emit-reads-back = written-reads-back emitRecord emit (record { stages = stages-blank; name = name-blank })
+emit-reads-back = written-reads-back emitRecord emit emit-shaped
 
 -- The record that was read from b can be written into every buffer that has room for its n bytes, and gives these n bytes again.
 abbrev pub WritesBack : List ℕ → Type 0

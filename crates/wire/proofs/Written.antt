@@ -1,6 +1,5 @@
 -- What the writer answers, by cases: a refusal with its number, or the length of a record that is free of causes and fits.
 use mathlib.Core.Path.{_≡_, refl, sym, _∙_}
-use mathlib.Core.Bool.{Bool, true, false, cond}
 use Prim.Native.Nat.{ℕ, _≤_}
 use native.Mathlib.Omega.{arith}
 use borrow.Author.Tests.{le-ltb, ltb-false}
@@ -17,6 +16,7 @@ use Rattle.wire.specs.declared.Kind.the-variants as kind
 use Rattle.wire.specs.declared.Record.{Record}
 use Rattle.wire.specs.declared.WriteAnswer.{WriteAnswer}
 use Rattle.wire.specs.declared.WriteAnswer.the-variants.{Wrote, Refused}
+use Rattle.wire.proofs.Laws.{either}
 use Rattle.wire.proofs.Bodies.{Free}
 
 -- a value without a cause
@@ -32,18 +32,13 @@ pub fits-writes : (r : Record) (room : ℕ) → Free (r .kind) r → recordLengt
 fits-writes r room f h = sym (free-writes (r .kind) r (writeInto room (r .kind)) refl f) ∙ rw (le-ltb room (recordLength (r .kind)) h)
 
 -- What is answered and its number come of the same tests.
-module _ (Q : ℕ → WriteAnswer → Type 0) where
-  either : (t : Bool) (m n : ℕ) (x y : WriteAnswer) → (t ≡ true → Q m x) → (t ≡ false → Q n y) → Q (cond t m n) (cond t x y)
-  either true m n x y p q = p refl
-  either false m n x y p q = q refl
-
-  value-cases : (k : Kind) (r : Record) (n : ℕ) (a : WriteAnswer) → ((c : Refusal) → Q (numberOf c) (Refused c)) → (Free k r → Q n a) →
-      Q (valueNumber k r n) (writeAs k r a)
-  unfolding valueNumber writeAs
-  value-cases kind.Key r n a p q = either (stageFlagsBad (r .key .stages)) _ _ _ _ (λ _. p StageFlags) q
-  value-cases kind.Variant r n a p q = either (variantFlagsBad (r .variant)) _ _ _ _ (λ _. p VariantFlags) q
-  value-cases kind.Entry r n a p q = either (entryGood (r .entry)) _ _ _ _ q (λ _. p EntryName)
-  value-cases kind.Emit r n a p q = q tt
+value-cases : (Q : ℕ → WriteAnswer → Type 0) (k : Kind) (r : Record) (n : ℕ) (a : WriteAnswer) → ((c : Refusal) → Q (numberOf c) (Refused c)) →
+    (Free k r → Q n a) → Q (valueNumber k r n) (writeAs k r a)
+unfolding valueNumber writeAs
+value-cases Q kind.Key r n a p q = either Q (stageFlagsBad (r .key .stages)) _ _ _ _ (λ _. p StageFlags) q
+value-cases Q kind.Variant r n a p q = either Q (variantFlagsBad (r .variant)) _ _ _ _ (λ _. p VariantFlags) q
+value-cases Q kind.Entry r n a p q = either Q (entryGood (r .entry)) _ _ _ _ q (λ _. p EntryName)
+value-cases Q kind.Emit r n a p q = q tt
 
 -- what is known of the record that was written into a buffer of a length
 pub record Written (r : Record) (room : ℕ) : Type 0 where

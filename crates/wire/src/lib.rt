@@ -47,13 +47,13 @@ pub enum WriteAnswer {
 }
 
 // The byte that a record of each kind begins with.
-const KIND_KEY: u8 = 1;
+pub const KIND_KEY: u8 = 1;
 
-const KIND_VARIANT: u8 = 2;
+pub const KIND_VARIANT: u8 = 2;
 
-const KIND_ENTRY: u8 = 3;
+pub const KIND_ENTRY: u8 = 3;
 
-const KIND_EMIT: u8 = 4;
+pub const KIND_EMIT: u8 = 4;
 
 // How many bytes follow the kind byte.
 const KEY_BODY: usize = 58;
@@ -76,7 +76,7 @@ pub fn kind_byte(kind: Kind) -> u8
 }
 
 // The length of a kind's body.
-pub(crate) fn body_length(kind: Kind) -> usize
+pub fn body_length(kind: Kind) -> usize
     ensures { λ r. ⌜ r ≡ bodyLength kind ⌝ }
 {
     match kind {
@@ -88,7 +88,7 @@ pub(crate) fn body_length(kind: Kind) -> usize
 }
 
 // The kind byte and the body.
-pub(crate) fn record_length(kind: Kind) -> usize
+pub fn record_length(kind: Kind) -> usize
     ensures { λ r. ⌜ r ≡ recordLength kind ⌝ }
 {
     1 + body_length(kind)

@@ -74,7 +74,7 @@ fn stages_from_bytes(body: &[u8]) -> [Stage; 8]
     stages
 }
 
-fn key_from_body(body: &[u8]) -> Key
+pub fn key_from_body(body: &[u8]) -> Key
     requires { ⌜ bodyLength Kind.Key ≤ length (now body) ⌝ }
     ensures { λ r. ⌜ r ≡ keyFromBody (now (body .entry)) ⌝ }
 {
@@ -96,7 +96,7 @@ fn mask_at(body: &[u8], at: usize) -> u16
     low + 256 * high
 }
 
-fn variant_from_body(body: &[u8]) -> Variant
+pub fn variant_from_body(body: &[u8]) -> Variant
     requires { ⌜ bodyLength Kind.Variant ≤ length (now body) ⌝ }
     ensures { λ r. ⌜ r ≡ variantFromBody (now (body .entry)) ⌝ }
 {
@@ -123,7 +123,7 @@ fn variant_from_body(body: &[u8]) -> Variant
     }
 }
 
-fn entry_from_body(body: &[u8]) -> Entry
+pub fn entry_from_body(body: &[u8]) -> Entry
     requires { ⌜ bodyLength Kind.Entry ≤ length (now body) ⌝ }
     ensures { λ r. ⌜ r ≡ entryFromBody (now (body .entry)) ⌝ }
 {

@@ -133,7 +133,7 @@ fn judge_room(kind: Kind, room: usize) -> WriteAnswer
     WriteAnswer::Wrote(n)
 }
 
-// What is answered, before anything is written.
+// What is answered, before anything is written: 3, 5 or 6 of the value, else what is answered for one that is free of them.
 fn judge(made: Record, room: usize) -> WriteAnswer
     ensures { λ r. ⌜ r ≡ writeAnswer made room ⌝ }
 {
@@ -141,7 +141,7 @@ fn judge(made: Record, room: usize) -> WriteAnswer
     let key = made.key;
     let variant = made.variant;
     let entry = made.entry;
-    let fits = judge_room(kind, room);
+    let free = judge_room(kind, room);
     match kind {
         Kind::Key => {
             if stage_flags_bad(key) {
@@ -160,7 +160,7 @@ fn judge(made: Record, room: usize) -> WriteAnswer
         }
         Kind::Emit => {}
     }
-    fits
+    free
 }
 
 pub fn write(made: Record, out: &mut [u8]) -> WriteAnswer

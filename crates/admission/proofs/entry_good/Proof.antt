@@ -1,3 +1,4 @@
+-- The first byte decides whether a name starts; from there on `good` and the bytes left to test say together what all bytes say.
 use mathlib.Core.Path.{_≡_, refl, sym, ap, _∙_}
 use mathlib.Core.Bool.{Bool, true, false, _&&_}
 use mathlib.Core.List.{List, [], _∷_}
@@ -55,6 +56,10 @@ abbrev μ-loop : tie.MeasureT-loop
 named : (s : tie.Start Inv-loop μ-loop) → length (s .args .entry .name) ≡ 32
 named s = sym (length-map (s .args .entry .name) _) ∙ s .good .0 .1 .1 .1 .0 .1 .0 .1
 
+-- the start of the function, from behind its three tests
+abbrev start : tie.Else3 Inv-loop μ-loop → tie.Start Inv-loop μ-loop
+start c = c .before .before .before .before .before .before .before
+
 returns : tie.Need-returns Inv-loop μ-loop
 returns c = empty _ (c .if1 .taken)
 
@@ -63,34 +68,34 @@ returns-2 c = long _ (c .if2 .taken)
 
 returns-3 : tie.Need-returns-3 Inv-loop μ-loop
 returns-3 c =
-    let s2 = c .before .before in
-    let s1 = s2 .before .before in
-    let s = s1 .before .before .before in
+    let s = c .before .before .before .before .before .before .before in
     bad-first (s .args .entry) (omega arith) (omega arith) (named s) (sym (c .before .starts-name .ensures) ∙ not-true _ (c .if3 .taken))
 
 loop-holds : tie.Need-loop-holds Inv-loop μ-loop
 loop-holds c =
-    let s = c .before .before .before .before .before .before .before in
-    let e : s .args .entry .len - 0 ≡ s .args .entry .len = omega arith in
-    (omega arith, named s, rw e)
+    let e = start c .args .entry in
+    let all-left : e .len - 0 ≡ e .len = omega arith in
+    (omega arith, named (start c), rw all-left)
 
 loop-again : tie.Need-loop-again Inv-loop μ-loop
 loop-again c =
-    let l = c .before .before .before .loop in
-    let e = c .before .before .before .before .before .before .before .before .before .before .before .args .entry in
-    let n : placed (e .len - l .i) (drop (l .i) (e .name)) ≡ (c .stands .result && placed (e .len - (l .i + 1)) (drop (l .i + 1) (e .name))) = placed-next (e .len) (l .i) (e .name) (omega (arith, l .inv .1)) ∙ rw (c .stands .ensures) in
-    (omega arith, l .inv .1, sym (and-assoc (l .good) (c .stands .result) (placed (e .len - (l .i + 1)) (drop (l .i + 1) (e .name)))) ∙ rw (← n) (l .inv .2))
+    let at = c .before .before .before in
+    let l = at .loop in
+    let e = start (at .before) .args .entry in
+    let rest = placed (e .len - (l .i + 1)) (drop (l .i + 1) (e .name)) in
+    let next : placed (e .len - l .i) (drop (l .i) (e .name)) ≡ (c .stands .result && rest) =
+    placed-next (e .len) (l .i) (e .name) (omega (arith, l .inv .1)) ∙ rw (c .stands .ensures) in
+    (omega arith, l .inv .1, sym (and-assoc (l .good) (c .stands .result) rest) ∙ rw (← next) (l .inv .2))
 
 returns-4 : tie.Need-returns-4 Inv-loop μ-loop
 returns-4 c =
     let l = c .before .loop in
     let s3 = c .before .before in
-    let s2 = s3 .before .before in
-    let s1 = s2 .before .before in
-    let s = s1 .before .before .before in
+    let s = start s3 in
     let e = s .args .entry in
-    sym (and-true (l .good)) ∙ ap (λ (b : Bool). l .good && b) (sym (placed-over (e .len) (l .i) (e .name) (omega (arith, l .inv .1)))) ∙ l .inv .2
-    ∙ by-bytes e (omega arith) (omega arith) (named s) (sym (s3 .before .starts-name .ensures) ∙ not-false _ (s3 .if3 .left))
+    let none-left = placed-over (e .len) (l .i) (e .name) (omega (arith, l .inv .1)) in
+    let starts = sym (s3 .before .starts-name .ensures) ∙ not-false _ (s3 .if3 .left) in
+    sym (and-true (l .good)) ∙ ap (λ (b : Bool). l .good && b) (sym none-left) ∙ l .inv .2 ∙ by-bytes e (omega arith) (omega arith) (named s) starts
 
 pub entry-good-spec : {M : Type 1} → statement M
 entry-good-spec =

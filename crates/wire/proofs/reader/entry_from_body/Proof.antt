@@ -17,28 +17,10 @@ abbrev μ-loop : tie.MeasureT-loop
 loop-holds : tie.Need-loop-holds Inv-loop μ-loop
 loop-holds c = (omega arith, refl, refl)
 
-add-name : tie.Need-add-name Inv-loop μ-loop
-add-name c = omega arith
-
-shared-slice-read-name : tie.Need-shared-slice-read-name Inv-loop μ-loop
-shared-slice-read-name c = omega arith
-
-array-write-name : tie.Need-array-write-name Inv-loop μ-loop
-array-write-name c = omega arith
-
-add-i : tie.Need-add-i Inv-loop μ-loop
-add-i c = omega arith
-
-loop-less : tie.Need-loop-less Inv-loop μ-loop
-loop-less c = omega arith
-
 loop-again : tie.Need-loop-again Inv-loop μ-loop
 loop-again c = let b = c .before .before in
     let more = byte-more (b .before .args .body .now) (b .loop .name) (b .loop .i) (omega arith) (omega arith) in
     (omega arith, simp length-set (b .loop .inv .1), more (b .loop .inv .2))
-
-shared-slice-read-t11 : tie.Need-shared-slice-read-t11 Inv-loop μ-loop
-shared-slice-read-t11 c = omega arith
 
 returns : tie.Need-returns Inv-loop μ-loop
 unfolding entryFromBody
@@ -48,15 +30,5 @@ returns c = let b = c .before .before in
 pub entry-from-body-spec : {M : Type 1} → statement M
 entry-from-body-spec =
     tie.close
-    (tie.spec
-    Inv-loop
-    μ-loop
-    loop-holds
-    add-name
-    shared-slice-read-name
-    array-write-name
-    add-i
-    loop-less
-    loop-again
-    shared-slice-read-t11
-    returns)
+    (tie.spec Inv-loop μ-loop loop-holds (λ c. omega arith) (λ c. omega arith) (λ c. omega arith) (λ c. omega arith)
+    (λ c. omega arith) loop-again (λ c. omega arith) returns)

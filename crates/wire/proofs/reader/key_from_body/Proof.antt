@@ -9,5 +9,4 @@ unfolding keyFromBody
 returns c = rw (c .before .before .stages-from-bytes .ensures)
 
 pub key-from-body-spec : {M : Type 1} → statement M
-key-from-body-spec =
-    tie.close (tie.spec (λ c κs. search needs) (λ c. search needs) (λ c. search needs) returns)
+key-from-body-spec = tie.close (tie.spec (λ c κs. search needs) (λ c. search needs) (λ c. search needs) returns)

@@ -28,12 +28,5 @@ returns c = refl
 pub mask-at-spec : {M : Type 1} → statement M
 mask-at-spec =
     tie.close
-    (tie.spec
-    (λ c. search needs)
-    cast-low
-    (λ c. search needs)
-    (λ c. search needs)
-    cast-high
-    mul-result
-    add-result
+    (tie.spec (λ c. search needs) cast-low (λ c. search needs) (λ c. search needs) cast-high mul-result add-result
     returns)

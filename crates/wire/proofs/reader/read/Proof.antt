@@ -23,12 +23,5 @@ returns-2 c = numbered _ _ (c .refuse .ensures ∙ read-none _ (omega arith))
 pub read-spec : {M : Type 1} → statement M
 read-spec =
     tie.close
-    (tie.spec
-    (λ c. search needs)
-    (λ c. search needs)
-    (λ c. search needs)
-    (λ c. search needs)
-    (λ c κs. tt)
-    returns
-    (λ c κs. tt)
-    returns-2)
+    (tie.spec (λ c. search needs) (λ c. search needs) (λ c. search needs) (λ c. search needs) (λ c κs. tt) returns
+    (λ c κs. tt) returns-2)

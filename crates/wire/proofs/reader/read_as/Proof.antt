@@ -44,20 +44,6 @@ returns-5 c =
 pub read-as-spec : {M : Type 1} → statement M
 read-as-spec =
     tie.close
-    (tie.spec
-    (λ c κs. tt)
-    (λ c κs. tt)
-    returns
-    (λ c. search needs)
-    read-key-requires
-    (λ c. search needs)
-    read-variant-requires
-    (λ c. search needs)
-    read-entry-requires
-    (λ c. search needs)
-    (λ c κs. tt)
-    (λ c κs. tt)
-    returns-2
-    returns-3
-    returns-4
-    returns-5)
+    (tie.spec (λ c κs. tt) (λ c κs. tt) returns (λ c. search needs) read-key-requires (λ c. search needs)
+    read-variant-requires (λ c. search needs) read-entry-requires (λ c. search needs) (λ c κs. tt) (λ c κs. tt)
+    returns-2 returns-3 returns-4 returns-5)

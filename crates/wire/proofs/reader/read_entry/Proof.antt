@@ -21,13 +21,4 @@ returns-2 c =
     (c .take-record .ensures ∙ ap took (c .before .entry-record .ensures))
 
 pub read-entry-spec : {M : Type 1} → statement M
-read-entry-spec =
-    tie.close
-    (tie.spec
-    (λ c κs. search needs)
-    (λ c κs. tt)
-    (λ c κs. tt)
-    returns
-    (λ c κs. tt)
-    (λ c κs. tt)
-    returns-2)
+read-entry-spec = tie.close (tie.spec (λ c κs. search needs) (λ c κs. tt) (λ c κs. tt) returns (λ c κs. tt) (λ c κs. tt) returns-2)

@@ -37,14 +37,5 @@ returns-3 c =
 pub read-key-spec : {M : Type 1} → statement M
 read-key-spec =
     tie.close
-    (tie.spec
-    (λ c κs. search needs)
-    (λ c. search needs)
-    (λ c κs. tt)
-    (λ c κs. tt)
-    returns
-    (λ c κs. tt)
-    returns-2
-    (λ c κs. tt)
-    (λ c κs. tt)
-    returns-3)
+    (tie.spec (λ c κs. search needs) (λ c. search needs) (λ c κs. tt) (λ c κs. tt) returns (λ c κs. tt) returns-2
+    (λ c κs. tt) (λ c κs. tt) returns-3)

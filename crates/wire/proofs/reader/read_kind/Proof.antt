@@ -25,14 +25,5 @@ returns-5 c =
 pub read-kind-spec : {M : Type 1} → statement M
 read-kind-spec =
     tie.close
-    (tie.spec
-    (λ c κs. tt)
-    (λ c κs. tt)
-    (λ c κs. tt)
-    (λ c κs. tt)
-    (λ c κs. tt)
-    returns
-    returns-2
-    returns-3
-    returns-4
+    (tie.spec (λ c κs. tt) (λ c κs. tt) (λ c κs. tt) (λ c κs. tt) (λ c κs. tt) returns returns-2 returns-3 returns-4
     returns-5)

@@ -20,13 +20,4 @@ returns-2 c =
     (c .take-record .ensures ∙ ap took (c .before .variant-record .ensures))
 
 pub read-variant-spec : {M : Type 1} → statement M
-read-variant-spec =
-    tie.close
-    (tie.spec
-    (λ c κs. search needs)
-    (λ c κs. tt)
-    (λ c κs. tt)
-    returns
-    (λ c κs. tt)
-    (λ c κs. tt)
-    returns-2)
+read-variant-spec = tie.close (tie.spec (λ c κs. search needs) (λ c κs. tt) (λ c κs. tt) returns (λ c κs. tt) (λ c κs. tt) returns-2)

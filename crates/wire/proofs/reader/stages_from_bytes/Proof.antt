@@ -19,18 +19,6 @@ abbrev μ-loop : tie.MeasureT-loop
 loop-holds : tie.Need-loop-holds Inv-loop μ-loop
 loop-holds c = (omega arith, refl, refl)
 
-mul-stage-at : tie.Need-mul-stage-at Inv-loop μ-loop
-mul-stage-at c = omega arith
-
-mul-stages : tie.Need-mul-stages Inv-loop μ-loop
-mul-stages c = omega arith
-
-add-i : tie.Need-add-i Inv-loop μ-loop
-add-i c = omega arith
-
-loop-less : tie.Need-loop-less Inv-loop μ-loop
-loop-less c = omega arith
-
 loop-again : tie.Need-loop-again Inv-loop μ-loop
 loop-again c = let b = c .before .before in
     let e : 8 - b .loop .i ≡ suc (8 - (b .loop .i + 1)) = omega arith in
@@ -44,16 +32,5 @@ returns c = let b = c .before in
 pub stages-from-bytes-spec : {M : Type 1} → statement M
 stages-from-bytes-spec =
     tie.close
-    (tie.spec
-    Inv-loop
-    μ-loop
-    (λ c κs. tt)
-    loop-holds
-    mul-stage-at
-    (λ c κs. search needs)
-    mul-stages
-    (λ c. search needs)
-    add-i
-    loop-less
-    loop-again
-    returns)
+    (tie.spec Inv-loop μ-loop (λ c κs. tt) loop-holds (λ c. omega arith) (λ c κs. search needs) (λ c. omega arith)
+    (λ c. search needs) (λ c. omega arith) (λ c. omega arith) loop-again returns)

@@ -44,19 +44,5 @@ returns-7 c = c .before .before .judge-room .ensures ∙ free-writes kind.Emit _
 pub judge-spec : {M : Type 1} → statement M
 judge-spec =
     tie.close
-    (tie.spec
-    (λ c κs. tt)
-    (λ c. search needs)
-    (λ c κs. tt)
-    returns
-    (λ c. search needs)
-    (λ c κs. tt)
-    returns-2
-    (λ c. search needs)
-    (λ c κs. tt)
-    returns-3
-    (λ c. search needs)
-    returns-4
-    returns-5
-    returns-6
-    returns-7)
+    (tie.spec (λ c κs. tt) (λ c. search needs) (λ c κs. tt) returns (λ c. search needs) (λ c κs. tt) returns-2
+    (λ c. search needs) (λ c κs. tt) returns-3 (λ c. search needs) returns-4 returns-5 returns-6 returns-7)

@@ -24,12 +24,5 @@ returns c =
 pub put-key-spec : {M : Type 1} → statement M
 put-key-spec =
     tie.close
-    (tie.spec
-    (λ c. refl)
-    (λ c κs. tt)
-    (λ c κs. tt)
-    (λ c. search needs)
-    (λ c. refl)
-    (λ c κs. tt)
-    (λ c. search needs)
+    (tie.spec (λ c. refl) (λ c κs. tt) (λ c κs. tt) (λ c. search needs) (λ c. refl) (λ c κs. tt) (λ c. search needs)
     returns)

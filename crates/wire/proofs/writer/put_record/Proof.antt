@@ -23,20 +23,6 @@ returns-4 c = let p = c .before .before in rw (p .before .before .enum-told4 .gi
 pub put-record-spec : {M : Type 1} → statement M
 put-record-spec =
     tie.close
-    (tie.spec
-    (λ c. search needs)
-    (λ c κs. tt)
-    (λ c. search needs)
-    (λ c κs. tt)
-    (λ c. search needs)
-    (λ c κs. tt)
-    (λ c. search needs)
-    (λ c κs. tt)
-    (λ c. search needs)
-    returns
-    (λ c. search needs)
-    returns-2
-    (λ c. search needs)
-    returns-3
-    (λ c. search needs)
-    returns-4)
+    (tie.spec (λ c. search needs) (λ c κs. tt) (λ c. search needs) (λ c κs. tt) (λ c. search needs) (λ c κs. tt)
+    (λ c. search needs) (λ c κs. tt) (λ c. search needs) returns (λ c. search needs) returns-2 (λ c. search needs)
+    returns-3 (λ c. search needs) returns-4)

@@ -25,12 +25,6 @@ unfolding stagesBytes
 loop-holds c =
     (omega arith, sym (length-map (c .before .args .t3 .stages) _) ∙ c .before .good .1 .1 .0 .1 .1 .0 .1 .0 .1, nothing _ _)
 
-add-i : tie.Need-add-i Inv-loop μ-loop
-add-i c = omega arith
-
-loop-less : tie.Need-loop-less Inv-loop μ-loop
-loop-less c = omega arith
-
 loop-again : tie.Need-loop-again Inv-loop μ-loop
 loop-again c =
     let b = c .before .before .before .before .before .before in (
@@ -50,15 +44,5 @@ returns c =
 pub put-stages-spec : {M : Type 1} → statement M
 put-stages-spec =
     tie.close
-    (tie.spec
-    Inv-loop
-    μ-loop
-    loop-holds
-    (λ c. search needs)
-    (λ c. search needs)
-    (λ c κs. tt)
-    add-i
-    loop-less
-    loop-again
-    same-length
-    returns)
+    (tie.spec Inv-loop μ-loop loop-holds (λ c. search needs) (λ c. search needs) (λ c κs. tt) (λ c. omega arith)
+    (λ c. omega arith) loop-again same-length returns)

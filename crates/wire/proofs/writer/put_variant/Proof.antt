@@ -15,13 +15,4 @@ returns c =
     same refl (s1 .put .ensures .written ⨾ s2 .put-masks .ensures ⨾ s3 .put2 .ensures .written)
 
 pub put-variant-spec : {M : Type 1} → statement M
-put-variant-spec =
-    tie.close
-    (tie.spec
-    (λ c. refl)
-    (λ c κs. tt)
-    (λ c κs. tt)
-    (λ c. refl)
-    (λ c κs. tt)
-    (λ c. search needs)
-    returns)
+put-variant-spec = tie.close (tie.spec (λ c. refl) (λ c κs. tt) (λ c κs. tt) (λ c. refl) (λ c κs. tt) (λ c. search needs) returns)

@@ -37,13 +37,4 @@ returns-2 c =
     (j .ensures, (rw (c .enum-told2 .given .1) refl, ap writeNumber (j .ensures) ∙ write-number _ _))
 
 pub write-spec : {M : Type 1} → statement M
-write-spec =
-    tie.close
-    (tie.spec
-    (λ c κs. tt)
-    (λ c. search needs)
-    (λ c κs. tt)
-    (λ c. search needs)
-    (λ c. search needs)
-    returns
-    returns-2)
+write-spec = tie.close (tie.spec (λ c κs. tt) (λ c. search needs) (λ c κs. tt) (λ c. search needs) (λ c. search needs) returns returns-2)
