@@ -19,7 +19,7 @@ use Rattle.wire.specs.declared.Record.{Record}
 use Rattle.wire.specs.declared.Reading.{Reading}
 use Rattle.wire.specs.declared.ReadAnswer.{ReadAnswer}
 use Rattle.wire.specs.declared.ReadAnswer.the-variants as read
-use Rattle.records.specs.Applying.{holdsAll, holding, replacedBy, refusedWith, emissionAnswer, applyAs, applyRead, heldAfter, applied}
+use Rattle.records.specs.Applying.{holdsAll, holding, emissionAnswer, applyAs, applyRead, heldAfter, applied}
 use Rattle.records.specs.declared.Held.{Held}
 use Rattle.records.specs.declared.ApplyAnswer.{ApplyAnswer}
 use Rattle.records.specs.declared.ApplyAnswer.the-variants.{Replaced, Refused}
@@ -50,16 +50,17 @@ module _ (h : Held) (b : List ℕ) (room : ℕ) {x : Reading} (e : x ≡ readRec
   by-answer : {a : ReadAnswer} → x .answer ≡ a → outcome a (x .found) h room ≡ applied h b room
   by-answer t = ap (λ (a : ReadAnswer). outcome a (x .found) h room) (sym t) ∙ ap (λ (y : Reading). outcome (y .answer) (y .found) h room) e
 
-  pub apply-refused : {c : Refusal} → x .answer ≡ read.Refused c → refusedWith c h ≡ applied h b room
+  pub apply-refused : {c : Refusal} → x .answer ≡ read.Refused c → record { answer = Refused c; held = h } ≡ applied h b room
   unfolding applyRead
   apply-refused t = by-answer t
 
   module _ {n : ℕ} (t : x .answer ≡ read.Took n) where
     pub apply-replaced : {after : Held} → applyAs (x .found .kind) n h room ≡ Replaced n → after ≡ holding (x .found .kind) (x .found) h →
-        replacedBy n after ≡ applied h b room
+        record { answer = Replaced n; held = after } ≡ applied h b room
     unfolding applyRead
     apply-replaced q f =
-        ap (replacedBy n) f ∙ ap (λ (a : ApplyAnswer). record { answer = a; held = heldAfter a (x .found) h }) (sym q) ∙ by-answer t
+        ap (λ (y : Held). record { answer = Replaced n; held = y }) f
+        ∙ ap (λ (a : ApplyAnswer). record { answer = a; held = heldAfter a (x .found) h }) (sym q) ∙ by-answer t
 
     pub apply-emit : {a : ApplyAnswer} → x .found .kind ≡ kind.Emit → a ≡ applyAs kind.Emit n h room → record { answer = a; held = h } ≡ applied h b room
     unfolding applyRead

@@ -25,6 +25,7 @@ use Rattle.records.specs.declared.ApplyAnswer.{ApplyAnswer}
 use Rattle.records.specs.declared.ApplyAnswer.the-variants.{Replaced, Text, Refused}
 use Rattle.records.specs.declared.Applied.{Applied}
 
+-- what is held at first: nothing, and blank values in its place
 abbrev pub nothingHeld : Held
 nothingHeld =
     record { «has_key» = false; key = blankKey; «has_variant» = false; variant = blankVariant; «has_entry» = false; entry = blankEntry }
@@ -43,31 +44,25 @@ holding kind.Entry r h =
     record { «has_key» = h .«has_key»; key = h .key; «has_variant» = h .«has_variant»; variant = h .variant; «has_entry» = true; entry = r .entry }
 holding kind.Emit r h = h
 
--- a record that took n bytes, whose value is held now
-abbrev pub replacedBy : ℕ → Held → Applied
-replacedBy n h = record { answer = Replaced n; held = h }
-
--- a refused record, with what is held then
-abbrev pub refusedWith : Refusal → Held → Applied
-refusedWith c h = record { answer = Refused c; held = h }
-
--- n is how many bytes the record took
+-- emission's answer, to a record that took n bytes
 abbrev pub emissionAnswer : ℕ → Answer → ApplyAnswer
 emissionAnswer n (emission-answer.Text e) = Text n e
 emissionAnswer n (emission-answer.Refused c) = Refused c
 
--- 01: "The text and result of an accepted emit record are those of emission from the held key, variant and entry into the same buffer." room is
--- the buffer's length.
+-- What is answered to a record of each kind that took n bytes, room being the length of the buffer for the text. 01: "The text and result of an
+-- accepted emit record are those of emission from the held key, variant and entry into the same buffer."
 unfoldable pub applyAs : Kind → ℕ → Held → ℕ → ApplyAnswer
 applyAs kind.Key n h room = Replaced n
 applyAs kind.Variant n h room = Replaced n
 applyAs kind.Entry n h room = Replaced n
 applyAs kind.Emit n h room = cond (holdsAll h) (emissionAnswer n (answerOf (h .key) (h .variant) (h .entry) room)) (Refused EmitTooEarly)
 
+-- by what was read
 unfoldable pub applyRead : ReadAnswer → Record → Held → ℕ → ApplyAnswer
 applyRead (read.Took n) r h room = applyAs (r .kind) n h room
 applyRead (read.Refused c) r h room = Refused c
 
+-- to the record at the front of b
 abbrev pub applyAnswer : Held → List ℕ → ℕ → ApplyAnswer
 applyAnswer h b room = applyRead (readRecord b .answer) (readRecord b .found) h room
 
@@ -82,7 +77,7 @@ textAfter (Replaced n) h out = out
 textAfter (Text n e) h out = bufferAfter (emission-answer.Text e) (textOf (h .key) (h .variant) (h .entry)) out
 textAfter (Refused c) h out = out
 
--- what applying the record at the front of b answers, and what is held then
+-- what is answered to the record at the front of b, and what is held then
 abbrev pub applied : Held → List ℕ → ℕ → Applied
 applied h b room = record { answer = applyAnswer h b room; held = heldAfter (applyAnswer h b room) (readRecord b .found) h }
 

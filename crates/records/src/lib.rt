@@ -14,7 +14,7 @@ use wire::make::blank_record;
 use wire::reader::read;
 ghost use mathlib.Core.Path.{_≡_};
 ghost use lib.ListN.{length};
-ghost use Rattle.records.specs.Applying.{AppliedDemand3, applied, appliedNumber, applyAs, applyNumber, emitNumber, holding, holdsAll, nothingHeld, refusedWith, replacedBy, textAfter};
+ghost use Rattle.records.specs.Applying.{AppliedDemand3, applied, appliedNumber, applyAs, applyNumber, emitNumber, holding, holdsAll, nothingHeld, textAfter};
 
 // The held values, each there or not.
 pub struct Held {
@@ -85,25 +85,6 @@ fn hold(found: Record, held: Held) -> Held
     }
 }
 
-fn replaced(n: usize, after: Held) -> Applied
-    ensures { λ r. ⌜ r ≡ replacedBy n after ⌝ }
-{
-    Applied {
-        answer: ApplyAnswer::Replaced(n),
-        held: after,
-    }
-}
-
-// A refusal leaves what is held.
-fn refused(refusal: Refusal, kept: Held) -> Applied
-    ensures { λ r. ⌜ r ≡ refusedWith refusal kept ⌝ }
-{
-    Applied {
-        answer: ApplyAnswer::Refused(refusal),
-        held: kept,
-    }
-}
-
 fn holds_all(held: Held) -> bool
     ensures { λ r. ⌜ r ≡ holdsAll held ⌝ }
 {
@@ -141,9 +122,18 @@ pub fn apply(held: Held, bytes: &[u8], text: &mut [u8]) -> Applied
     let found = reading.found;
     let kind = found.kind;
     match answer {
-        ReadAnswer::Refused(refusal) => refused(refusal, held),
+        ReadAnswer::Refused(refusal) => Applied {
+            answer: ApplyAnswer::Refused(refusal),
+            held: held,
+        },
         ReadAnswer::Took(n) => match kind {
-            Kind::Key | Kind::Variant | Kind::Entry => replaced(n, hold(found, held)),
+            Kind::Key | Kind::Variant | Kind::Entry => {
+                let after = hold(found, held);
+                Applied {
+                    answer: ApplyAnswer::Replaced(n),
+                    held: after,
+                }
+            }
             Kind::Emit => {
                 let emitted = emit_held(held, n, text);
                 Applied {

@@ -1,5 +1,5 @@
 -- What was read says which case of `applied` holds.
-use mathlib.Core.Path.{refl, _∙_}
+use mathlib.Core.Path.{refl}
 use borrow.Author.Needs.{needs}
 use Rattle.records.proofs.Cases.{apply-refused, apply-replaced, apply-emit, replaces}
 use Rattle.records.proofs.Answers.{applied-number}
@@ -8,22 +8,18 @@ use Rattle.records.proofs.apply.Tie as tie
 
 returns : tie.Need-returns
 returns c =
-    let e = c .refused .ensures in
-    let s = c .before .before in
-    let a = e ∙ apply-refused _ _ _ (s .before .before .before .read .ensures .0) (s .answer .given .1) in
-    (a, (rw e, (rw e tt, applied-number _ _ _ a)))
+    let s = c .before in
+    let a = apply-refused _ _ _ (s .before .before .before .read .ensures .0) (s .answer .given .1) in
+    (a, (refl, (tt, applied-number _ _ _ a)))
 
 returns-2 : tie.Need-returns-2
 returns-2 c =
-    let e = c .replaced .ensures in
-    let s2 = c .before .before in
-    let s1 = s2 .before .before in
+    let s1 = c .before .before .before in
     let a =
-    e
-    ∙ apply-replaced _ _ _ (s1 .before .before .before .read .ensures .0) (s1 .answer2 .given .1)
-    (replaces _ _ _ _ (s2 .match2 .keys1)) (c .before .hold .ensures)
+    apply-replaced _ _ _ (s1 .before .before .before .read .ensures .0) (s1 .answer2 .given .1) (replaces _ _ _ _ (c .before .match2 .keys1))
+    (c .hold .ensures)
     in
-    (a, (rw e, (rw e tt, applied-number _ _ _ a)))
+    (a, (refl, (tt, applied-number _ _ _ a)))
 
 returns-3 : tie.Need-returns-3
 returns-3 c =
@@ -40,9 +36,7 @@ apply-spec =
     (tie.spec
     (λ c κs. tt)
     (λ c. search needs)
-    (λ c κs. tt)
     (λ c. search needs)
-    (λ c κs. tt)
     (λ c κs. tt)
     (λ c. search needs)
     (λ c κs. tt)
