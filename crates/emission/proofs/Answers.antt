@@ -12,9 +12,9 @@ use lib.Seq.{take-at}
 use Rattle.text.specs.Text.{raw}
 use Rattle.text.specs.Buffer.{Wrote}
 use Rattle.text.proofs.Laws.{whole}
-use Rattle.cascade.specs.Keys.{active}
+use Rattle.cascade.specs.Keys.{active, either}
 use Rattle.cascade.specs.Reading.{lookupsOf}
-use Rattle.cascade.specs.Warnings.{withoutText, unknownSelector, unknownModifier, either, anyWarns, stageWarnings}
+use Rattle.cascade.specs.Warnings.{withoutText, unknownSelector, unknownModifier, anyWarns, stageWarnings}
 use Rattle.cascade.specs.Survey.{surveyOf}
 use Rattle.values.specs.declared.Stage.{Stage}
 use Rattle.values.specs.declared.Key.{Key}
