@@ -14,7 +14,7 @@ ghost use Rattle.text.specs.Text.{lit, _⊕_};
 ghost use Rattle.text.specs.Buffer.{Wrote};
 ghost use Rattle.shader.specs.Output.{specularText, fogDepthText, fogFactorText, fogText, comparisonText, testText, srgbText, returnText, outputText};
 
-// Specular, and the colour that the rest changes.
+// The line of specular add, and the declaration of the colour that the later lines change.
 fn put_specular(out: &mut [u8], at: usize, on: bool) -> usize
     ensures { λ r. ⌜ Wrote (now (out .entry)) at (now (out .exit)) r (specularText on ⊕ lit "    float4 oC0 = current;\n") ⌝ }
 {
@@ -41,7 +41,7 @@ fn put_fog_depth(out: &mut [u8], at: usize, w: bool) -> usize
     )
 }
 
-// By the table mode: EXP, EXP2, else linear.
+// The factor by the table mode: EXP, EXP2, or else linear.
 fn put_fog_factor(out: &mut [u8], at: usize, mode: u8) -> usize
     ensures { λ r. ⌜ Wrote (now (out .entry)) at (now (out .exit)) r (fogFactorText mode) ⌝ }
 {

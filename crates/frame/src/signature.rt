@@ -24,7 +24,7 @@ ghost use Rattle.cascade.specs.Survey.{surveyOf};
 ghost use Rattle.shader.specs.Lookups.{typeText};
 ghost use Rattle.shader.specs.Whole.{stageInText, textureParameter, samplerParameter, samplersText, parametersText, spriteText, localsText};
 
-// Up to the constants.
+// The parameters up to the constants.
 fn put_stage_in(out: &mut [u8], at: usize, sprite: bool) -> usize
     ensures { λ r. ⌜ Wrote (now (out .entry)) at (now (out .exit)) r (stageInText sprite ⊕ lit "    constant float4 *ps_c [[buffer(15)]]") ⌝ }
 {
