@@ -48,7 +48,7 @@ pub copied : (b out : List ℕ) (n : ℕ) → Bytes b → recordNumber b ≡ 0 �
 copied b out n w z e h = (
   sym (copy-number b z (length out)) ∙ rw (le-ltb (length out) (recordLength (kindIn b)) (omega (arith, e))),
   ap (λ (l : List ℕ). atFront l out) (bytes-taken b z w ∙ ap (λ (m : ℕ). take m b) e)
-  ∙ ap (λ (m : ℕ). take n b ++ drop m out) (length-take-le n b (bytes-within b z refl (sym e))),
+      ∙ ap (λ (m : ℕ). take n b ++ drop m out) (length-take-le n b (bytes-within b z refl (sym e))),
 )
 
 -- what yuzuknoll_write promises: its number, the buffer and the numbers that it leaves
@@ -77,6 +77,8 @@ module _ (b out rec : List ℕ) where
         Writes 0 out′ rec′
     write-copied w h p q = (
       sym (copied b out n w z (sym size) h .0),
-      (whole p (omega (arith, length-take-le n b (bytes-within b z g l))) ∙ ap (λ (x : List ℕ). atFront x out) (ap (λ (m : ℕ). take m b) size ∙ sym (bytes-taken b z w)),
-      q ∙ ap recordNumbers g),
+      (
+        whole p (omega (arith, length-take-le n b (bytes-within b z g l))) ∙ ap (λ (x : List ℕ). atFront x out) (ap (λ (m : ℕ). take m b) size ∙ sym (bytes-taken b z w)),
+        q ∙ ap recordNumbers g,
+      ),
     )

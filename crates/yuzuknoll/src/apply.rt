@@ -121,7 +121,12 @@ fn emit_record(held: &[u8], text: &mut [u8], applied: &mut [u64; 7]) -> u64
 // Applies the record at the front of bytes: it is held, or writes the text of what is held to the front of text. Reports its kind and length, and
 // the text's length, mask, rows, lookups and warning, which are 0 for a record that is held.
 #[no_mangle]
-pub extern "C" fn yuzuknoll_apply(held: &mut [u8; 113], bytes: &[u8], text: &mut [u8], applied: &mut [u64; 7]) -> u64
+pub extern "C" fn yuzuknoll_apply(
+    held: &mut [u8; 113],
+    bytes: &[u8],
+    text: &mut [u8],
+    applied: &mut [u64; 7],
+) -> u64
     ensures number { λ r. ⌜ r ≡ appliedNumber (now (bytes .entry)) (heldOf (now (held .entry))) (length (now (text .entry))) ⌝ }
     ensures held { λ r. ⌜ now (held .exit) ≡ after r (heldWith (kindIn (now (bytes .entry))) (now (bytes .entry)) (now (held .entry))) (now (held .entry)) ⌝ }
     ensures text { λ r. ⌜ now (text .exit) ≡ after r (textWith (kindIn (now (bytes .entry))) (heldOf (now (held .entry))) (now (text .entry))) (now (text .entry)) ⌝ }

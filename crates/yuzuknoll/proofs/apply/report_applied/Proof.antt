@@ -6,7 +6,9 @@ use Rattle.yuzuknoll.proofs.apply.report_applied.Tie as tie
 
 returns : tie.Need-returns
 returns c =
-    let k = c .before in rw (k .kind-byte .ensures, c .record-length .ensures, five (k .before .args .t2) (search needs))
+    let size = c .before in
+    let k = size .before in
+    rw (k .kind-byte .ensures, size .record-length .ensures, five (k .before .args .t2) (search needs))
 
 pub report-applied-spec : {M : Type 1} → statement M
 report-applied-spec =
