@@ -86,19 +86,19 @@ put-stages-spec =
     Inv-loop
     μ-loop
     loop-holds
-    (λ c. omega arith)
-    (λ c. omega arith)
-    (λ c. omega arith)
+    (λ c. search needs)
+    (λ c. search needs)
+    (λ c. search needs)
     put-marked-requires
     (λ c κs. search needs)
-    (λ c. omega arith)
+    (λ c. search needs)
     (λ c κs. search needs)
     (λ c. search needs)
     (λ c. search needs)
-    (λ c. omega arith)
+    (λ c. search needs)
     loop-again
     put-stage-line-requires
-    (λ c. omega arith)
+    (λ c. search needs)
     loop-again-2
     (λ c. c .before .loop .inv .3 .kept)
     returns)
