@@ -6,7 +6,7 @@ use mathlib.Core.List.{List}
 use Rattle.text.specs.Text.{Text, bytes, raw, lit, none, pick, flat, _⊕_}
 use Rattle.text.specs.Marks.{numbered}
 use Rattle.text.specs.Buffer.{Wrote}
-use Rattle.text.proofs.Laws.{same, _⨾_}
+use Rattle.text.proofs.Laws.{_⨾_}
 use Rattle.shader.specs.Lookups.{textureName, samplerName, typeText, textureTypeOf}
 use Rattle.shader.specs.Output.{specularText}
 use Rattle.shader.specs.Whole.{varyingsText, srgbHelperText, stageInText, textureParameter, samplerParameter, spriteLine, spriteText, localsText}

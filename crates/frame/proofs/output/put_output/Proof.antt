@@ -17,4 +17,14 @@ returns c =
     (regroup (s1 .put-specular .ensures ⨾ s2 .put-fog .ensures ⨾ s3 .put-test .ensures ⨾ s4 .put-srgb .ensures ⨾ s5 .put-return .ensures))
 
 pub put-output-spec : {M : Type 1} → statement M
-put-output-spec = tie.close (tie.spec (λ c κs. search needs) (λ c κs. search needs) (λ c κs. search needs) (λ c κs. search needs) (λ c κs. search needs) (λ c κs. search needs) (λ c. cc) returns)
+put-output-spec =
+    tie.close
+    (tie.spec
+    (λ c κs. search needs)
+    (λ c κs. search needs)
+    (λ c κs. search needs)
+    (λ c κs. search needs)
+    (λ c κs. search needs)
+    (λ c κs. search needs)
+    (λ c. cc)
+    returns)
