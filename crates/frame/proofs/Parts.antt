@@ -2,20 +2,16 @@
 use Prim.Native.Nat.{ℕ}
 use mathlib.Core.Bool.{Bool, true, false}
 use mathlib.Core.Path.{_≡_, refl, ap, _∙_}
-use mathlib.Core.List.{List, append-assoc}
+use mathlib.Core.List.{List}
 use Rattle.text.specs.Text.{Text, bytes, raw, lit, none, pick, flat, _⊕_}
 use Rattle.text.specs.Marks.{numbered}
 use Rattle.text.specs.Buffer.{Wrote}
-use Rattle.text.proofs.Laws.{same, _⨾_}
+use Rattle.text.proofs.Laws.{_⨾_}
 use Rattle.shader.specs.Lookups.{textureName, samplerName, typeText, textureTypeOf}
 use Rattle.shader.specs.Output.{specularText}
 use Rattle.shader.specs.Whole.{varyingsText, srgbHelperText, stageInText, textureParameter, samplerParameter, spriteLine, spriteText, localsText}
 use Rattle.values.specs.declared.Variant.{Variant}
 use Rattle.shader.specs.declared.TextureType.{TextureType}
-
--- two pieces written in one, and a text behind them
-pub regroup : {l l′ : List ℕ} {a a′ : ℕ} {s t u : Text} → Wrote l a l′ a′ ((s ⊕ t) ⊕ u) → Wrote l a l′ a′ (s ⊕ t ⊕ u)
-regroup {s = s} {t} {u} w = same (append-assoc (flat s) (flat t) (flat u)) w
 
 -- a text of what a function answered, and a text behind it
 pub answered : {A : Type 0} (t : A → Text) (x y : A) (u : Text) (l l₁ l₂ : List ℕ) (a a₁ a₂ : ℕ)

@@ -2,8 +2,8 @@
 use Prim.Native.Nat.{ℕ, _<_}
 use mathlib.Core.Bool.{Bool, true, false, cond}
 use mathlib.Core.Path.{_≡_, refl}
-use mathlib.Core.List.{List, append-assoc}
-use Rattle.text.specs.Text.{Text, lit, pick, flat, _⊕_}
+use mathlib.Core.List.{List}
+use Rattle.text.specs.Text.{lit, pick, flat, _⊕_}
 use Rattle.text.specs.Buffer.{Wrote}
 use Rattle.text.proofs.Laws.{same}
 use Rattle.cascade.specs.Keys.{bump}
@@ -30,10 +30,6 @@ module _ {l l′ : List ℕ} {a a′ : ℕ} where
   pub zeroed : {three : Bool} → Wrote l a l′ a′ (pick three (lit " : float3(0.0))") (lit " : float2(0.0))"))
       → Wrote l a l′ a′ (lit " : " ⊕ pick three (lit "float3(0.0)") (lit "float2(0.0)") ⊕ lit ")")
   zeroed {three} w = same (zero-bytes three) w
-
-  -- three pieces, and a text behind them
-  pub regroup : {s t u v : Text} → Wrote l a l′ a′ ((s ⊕ t ⊕ u) ⊕ v) → Wrote l a l′ a′ (s ⊕ t ⊕ u ⊕ v)
-  regroup w = same (simp append-assoc) w
 
 displaces : (b tex lum : Bool) (n i : ℕ) → n < i → Precedes (cond b (Displacing n tex lum) Ordinary) i
 displaces true tex lum n i h = h

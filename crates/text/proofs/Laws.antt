@@ -2,7 +2,7 @@
 use Prim.Native.Nat.{ℕ, zero, suc, _+_, _%_, _<_, _≤_}
 use mathlib.Core.Bool.{Bool, true, false, cond}
 use mathlib.Core.Path.{_≡_, refl, ap, sym, subst, _∙_}
-use mathlib.Core.List.{List, [], _∷_, _++_}
+use mathlib.Core.List.{List, [], _∷_, _++_, append-assoc}
 use mathlib.Core.Logic.{by-cases}
 use native.Mathlib.Omega.{arith}
 use native.Mathlib.Nat.{add-zero, zero-add}
@@ -85,6 +85,13 @@ whole {l} {t = t} w h = w .fits (omega arith) .0 ∙ sets-eq (flat t) l 0 (omega
 -- a text of the same bytes
 pub same : {l l′ : List ℕ} {a a′ : ℕ} {s t : Text} → flat s ≡ flat t → Wrote l a l′ a′ s → Wrote l a l′ a′ t
 same e w = record { kept = w .kept; fits = rw e at (w .fits); over = rw e at (w .over) }
+
+-- pieces written as one, and a text behind them
+pub regroup : {l l′ : List ℕ} {a a′ : ℕ} {s t u : Text} → Wrote l a l′ a′ ((s ⊕ t) ⊕ u) → Wrote l a l′ a′ (s ⊕ t ⊕ u)
+regroup {s = s} {t} {u} w = same (append-assoc (flat s) (flat t) (flat u)) w
+
+pub regroup-three : {l l′ : List ℕ} {a a′ : ℕ} {s t u v : Text} → Wrote l a l′ a′ ((s ⊕ t ⊕ u) ⊕ v) → Wrote l a l′ a′ (s ⊕ t ⊕ u ⊕ v)
+regroup-three w = same (simp append-assoc) w
 
 -- which of two texts
 pub pick-true : {l l′ : List ℕ} {a a′ : ℕ} {b : Bool} {s t : Text} → b ≡ true → Wrote l a l′ a′ s → Wrote l a l′ a′ (pick b s t)

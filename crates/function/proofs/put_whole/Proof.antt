@@ -49,15 +49,15 @@ put-whole-spec =
     tie.close
     (tie.spec
     (λ c. search needs)
-    (λ c κs. tt)
+    (λ c κs. search needs)
     array-share-prefix-name
     slice-aggregate-put
-    (λ c κs. tt)
     (λ c κs. search needs)
-    (λ c κs. tt)
-    (λ c κs. tt)
-    (λ c κs. tt)
     (λ c κs. search needs)
-    (λ c κs. tt)
+    (λ c κs. search needs)
+    (λ c κs. search needs)
+    (λ c κs. search needs)
+    (λ c κs. search needs)
+    (λ c κs. search needs)
     (λ c. keeps (returns c .0))
     returns)

@@ -7,6 +7,7 @@ use native.Mathlib.Numerals.{add-one}
 use native.Mathlib.Omega.{arith}
 use lib.ListN.{length, drop, getD, set, drop-of-length-le, length-set}
 use lib.Seq.{sets, drop-cons}
+use borrow.Author.Needs.{needs}
 use Rattle.text.specs.Marks.{filledByte, filled}
 use Rattle.text.proofs.Laws.{length-filled, getD-filled}
 use Rattle.text.proofs.copy.Statement.{statement}
@@ -50,12 +51,12 @@ copy-spec =
     Inv-loop
     μ-loop
     (λ c. (omega arith, c .before .before .pre, refl, rw add-zero))
-    (λ c. omega arith)
-    (λ c κs. tt)
-    (λ c. omega arith)
-    (λ c. omega arith)
-    (λ c. omega arith)
-    (λ c. omega arith)
+    (λ c. search needs)
+    (λ c κs. search needs)
+    (λ c. search needs)
+    (λ c. search needs)
+    (λ c. search needs)
+    (λ c. search needs)
     loop-again
     (λ c. c .before .loop .inv .2)
     returns)

@@ -5,6 +5,7 @@ use mathlib.Core.Path.{_≡_, refl, ap, _∙_}
 use native.Mathlib.Omega.{arith}
 use lib.ListN.{length}
 use lib.Seq.{sets, length-sets}
+use borrow.Author.Needs.{needs}
 use Rattle.text.specs.Text.{raw}
 use Rattle.text.specs.Marks.{filled}
 use Rattle.text.specs.Buffer.{Placed}
@@ -61,7 +62,7 @@ put-filled-spec =
     returns
     (λ c. c .if1 .left)
     returns-2
-    (λ c κs. omega arith)
-    (λ c. omega arith)
+    (λ c κs. search needs)
+    (λ c. search needs)
     (λ c. ap length (c .before .before .copy .ensures) ∙ simp length-sets)
     returns-3)

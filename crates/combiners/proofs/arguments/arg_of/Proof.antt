@@ -1,4 +1,5 @@
 -- The source is what `source_of` answers for the selector; the modifiers are the bits that `argOf` tests.
+use borrow.Author.Needs.{needs}
 use Rattle.combiners.proofs.arguments.arg_of.Statement.{statement}
 use Rattle.combiners.proofs.arguments.arg_of.Tie as tie
 
@@ -6,5 +7,5 @@ pub arg-of-spec : {M : Type 1} → statement M
 arg-of-spec =
     tie.close
     (tie.spec
-    (λ c κs. tt)
+    (λ c κs. search needs)
     (λ c. rw (c .source-of .ensures)))

@@ -1,4 +1,5 @@
 -- A complemented argument is the replicated one between `(1.0 - ` and `)`; another is the replicated one alone.
+use borrow.Author.Needs.{needs}
 use Rattle.text.proofs.Laws.{texts}
 use Rattle.combiners.specs.Arguments.{argText}
 use Rattle.combiners.proofs.arguments.put_arg.Statement.{statement}
@@ -9,12 +10,12 @@ unfolding argText
 put-arg-spec =
     tie.close
     (tie.spec
-    (λ c. search)
-    (λ c κs. search)
-    (λ c κs. search)
-    (λ c. search)
-    (λ c κs. search)
-    (λ c κs. search)
+    (λ c. search needs)
+    (λ c κs. search needs)
+    (λ c κs. search needs)
+    (λ c. search needs)
+    (λ c κs. search needs)
+    (λ c κs. search needs)
     (λ c. cc)
     (λ c. search texts)
     (λ c. cc)

@@ -1,4 +1,5 @@
 -- The text of the source, and `.aaaa` behind it where the alpha is replicated.
+use borrow.Author.Needs.{needs}
 use Rattle.text.proofs.Laws.{texts}
 use Rattle.combiners.specs.Arguments.{replicated}
 use Rattle.combiners.proofs.arguments.put_replicated.Statement.{statement}
@@ -6,4 +7,4 @@ use Rattle.combiners.proofs.arguments.put_replicated.Tie as tie
 
 pub put-replicated-spec : {M : Type 1} → statement M
 unfolding replicated
-put-replicated-spec = tie.close (tie.spec (λ c κs. search) (λ c. search) (λ c κs. search) (λ c. cc) (λ c. search texts))
+put-replicated-spec = tie.close (tie.spec (λ c κs. search needs) (λ c. search needs) (λ c κs. search needs) (λ c. cc) (λ c. search texts))

@@ -1,4 +1,5 @@
 -- The five pieces in the order of `formText`.
+use borrow.Author.Needs.{needs}
 use Rattle.text.proofs.Laws.{_⨾_, keeps}
 use Rattle.expressions.proofs.combine.put_both.Statement.{statement}
 use Rattle.expressions.proofs.combine.put_both.Tie as tie
@@ -16,10 +17,10 @@ pub put-both-spec : {M : Type 1} → statement M
 put-both-spec =
     tie.close
     (tie.spec
-    (λ c κs. search)
-    (λ c κs. search)
-    (λ c κs. search)
-    (λ c κs. search)
-    (λ c κs. search)
+    (λ c κs. search needs)
+    (λ c κs. search needs)
+    (λ c κs. search needs)
+    (λ c κs. search needs)
+    (λ c κs. search needs)
     (λ c. keeps (returns c))
     returns)

@@ -2,6 +2,7 @@
 use Prim.Native.Nat.{ℕ}
 use mathlib.Core.Path.{_≡_}
 use mathlib.Core.List.{List}
+use borrow.Author.Needs.{needs}
 use Rattle.text.specs.Text.{Text}
 use Rattle.text.specs.Buffer.{Wrote}
 use Rattle.text.proofs.Laws.{case}
@@ -25,13 +26,13 @@ pub put-expression-spec : {M : Type 1} → statement M
 put-expression-spec =
     tie.close
     (tie.spec
-    (λ c κs. search)
-    (λ c. search)
-    (λ c κs. search)
-    (λ c. search)
-    (λ c κs. search)
-    (λ c. search)
-    (λ c κs. search)
+    (λ c κs. search needs)
+    (λ c. search needs)
+    (λ c κs. search needs)
+    (λ c. search needs)
+    (λ c κs. search needs)
+    (λ c. search needs)
+    (λ c κs. search needs)
     (λ c. cc)
     (λ c. search (in-form, of))
     (λ c. cc)

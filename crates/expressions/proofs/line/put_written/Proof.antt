@@ -1,4 +1,5 @@
 -- The register and the two expressions are the line of a written alpha.
+use borrow.Author.Needs.{needs}
 use Rattle.text.proofs.Laws.{_⨾_}
 use Rattle.expressions.proofs.Lines.{writing}
 use Rattle.expressions.proofs.line.put_written.Statement.{statement}
@@ -19,14 +20,14 @@ pub put-written-spec : {M : Type 1} → statement M
 put-written-spec =
     tie.close
     (tie.spec
-    (λ c. search)
-    (λ c. search)
-    (λ c κs. search)
-    (λ c κs. search)
-    (λ c. search)
-    (λ c κs. search)
-    (λ c κs. search)
-    (λ c. search)
-    (λ c κs. search)
+    (λ c. search needs)
+    (λ c. search needs)
+    (λ c κs. search needs)
+    (λ c κs. search needs)
+    (λ c. search needs)
+    (λ c κs. search needs)
+    (λ c κs. search needs)
+    (λ c. search needs)
+    (λ c κs. search needs)
     (λ c. cc)
     returns)

@@ -1,4 +1,5 @@
 -- The struct, the helper and the line up to the entry, each by a flag of the variant.
+use borrow.Author.Needs.{needs}
 use Rattle.shader.specs.Whole.{varyingsText, srgbHelperText, fragmentText, frontText}
 use Rattle.frame.proofs.Parts.{picked, answered}
 use Rattle.frame.proofs.header.put_front.Statement.{statement}
@@ -9,13 +10,13 @@ unfolding frontText fragmentText
 put-front-spec =
     tie.close
     (tie.spec
-    (λ c κs. search)
-    (λ c κs. search)
-    (λ c κs. search)
-    (λ c κs. search)
-    (λ c κs. search)
-    (λ c. search)
-    (λ c. search)
-    (λ c κs. search)
+    (λ c κs. search needs)
+    (λ c κs. search needs)
+    (λ c κs. search needs)
+    (λ c κs. search needs)
+    (λ c κs. search needs)
+    (λ c. search needs)
+    (λ c. search needs)
+    (λ c κs. search needs)
     (λ c. cc)
     (λ c. search (picked, answered varyingsText, answered srgbHelperText)))

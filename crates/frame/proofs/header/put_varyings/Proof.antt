@@ -1,5 +1,5 @@
 -- What stands before the colours, the colours by the flag, and what stands behind them.
-use mathlib.Core.Path.{refl}
+use borrow.Author.Needs.{needs}
 use Rattle.text.proofs.Laws.{_⨾_, same}
 use Rattle.frame.proofs.Parts.{varyings}
 use Rattle.frame.proofs.header.put_varyings.Statement.{statement}
@@ -16,12 +16,12 @@ pub put-varyings-spec : {M : Type 1} → statement M
 put-varyings-spec =
     tie.close
     (tie.spec
-    (λ c. refl)
-    (λ c κs. tt)
-    (λ c. refl)
-    (λ c. refl)
-    (λ c κs. tt)
-    (λ c. refl)
-    (λ c κs. tt)
+    (λ c. search needs)
+    (λ c κs. search needs)
+    (λ c. search needs)
+    (λ c. search needs)
+    (λ c κs. search needs)
+    (λ c. search needs)
+    (λ c κs. search needs)
     (λ c. cc)
     returns)

@@ -1,5 +1,4 @@
 -- Without a table mode the vertex factor's line, if there is fog; with one the depth, the factor and the line that mixes.
-use mathlib.Core.Path.{refl}
 use borrow.Author.Tests.{eq-eqb, ne-eqb}
 use borrow.Author.Needs.{needs}
 use Rattle.text.proofs.Laws.{_⨾_, pick-true, pick-false}
@@ -27,13 +26,13 @@ pub put-fog-spec : {M : Type 1} → statement M
 put-fog-spec =
     tie.close
     (tie.spec
-    (λ c. refl)
-    (λ c κs. tt)
+    (λ c. search needs)
     (λ c κs. search needs)
     (λ c κs. search needs)
     (λ c κs. search needs)
-    (λ c. refl)
-    (λ c κs. tt)
+    (λ c κs. search needs)
+    (λ c. search needs)
+    (λ c κs. search needs)
     (λ c. search needs)
     returns
     (λ c. search needs)

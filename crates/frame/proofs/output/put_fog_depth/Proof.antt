@@ -1,5 +1,4 @@
 -- One of two lines, by where the fog's depth comes from.
-use mathlib.Core.Path.{refl}
 use borrow.Author.Needs.{needs}
 use Rattle.shader.specs.Output.{fogDepthText}
 use Rattle.frame.proofs.output.put_fog_depth.Statement.{statement}
@@ -10,8 +9,8 @@ unfolding fogDepthText
 put-fog-depth-spec =
     tie.close
     (tie.spec
-    (λ c. refl)
-    (λ c. refl)
-    (λ c κs. tt)
+    (λ c. search needs)
+    (λ c. search needs)
+    (λ c κs. search needs)
     (λ c. search needs)
     (λ c. c .before .before .put-either .ensures .written))

@@ -1,6 +1,7 @@
 -- The table mode that an arm matched settles the choices of `fogFactorText`.
 use mathlib.Core.Path.{refl}
 use borrow.Author.Tests.{ne-eqb}
+use borrow.Author.Needs.{needs}
 use Rattle.text.proofs.Laws.{same, pick-false}
 use Rattle.shader.specs.Output.{fogFactorText}
 use Rattle.frame.proofs.output.put_fog_factor.Statement.{statement}
@@ -18,12 +19,12 @@ unfolding fogFactorText
 put-fog-factor-spec =
     tie.close
     (tie.spec
-    (λ c. refl)
-    (λ c κs. tt)
-    (λ c. refl)
-    (λ c κs. tt)
-    (λ c. refl)
-    (λ c κs. tt)
+    (λ c. search needs)
+    (λ c κs. search needs)
+    (λ c. search needs)
+    (λ c κs. search needs)
+    (λ c. search needs)
+    (λ c κs. search needs)
     (λ c. cc)
     (λ c. rw (c .before .before .before .before .before .match .keys1) (same refl (c .before .before .put .ensures .written)))
     (λ c. cc)

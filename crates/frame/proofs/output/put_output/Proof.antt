@@ -1,7 +1,7 @@
 -- Specular, fog, alpha test, sRGB and the return, in 01's order.
-use Rattle.text.proofs.Laws.{_⨾_}
+use borrow.Author.Needs.{needs}
+use Rattle.text.proofs.Laws.{_⨾_, regroup}
 use Rattle.shader.specs.Output.{outputText}
-use Rattle.frame.proofs.Parts.{regroup}
 use Rattle.frame.proofs.output.put_output.Statement.{statement}
 use Rattle.frame.proofs.output.put_output.Tie as tie
 
@@ -17,4 +17,14 @@ returns c =
     (regroup (s1 .put-specular .ensures ⨾ s2 .put-fog .ensures ⨾ s3 .put-test .ensures ⨾ s4 .put-srgb .ensures ⨾ s5 .put-return .ensures))
 
 pub put-output-spec : {M : Type 1} → statement M
-put-output-spec = tie.close (tie.spec (λ c κs. tt) (λ c κs. tt) (λ c κs. tt) (λ c κs. tt) (λ c κs. tt) (λ c κs. tt) (λ c. cc) returns)
+put-output-spec =
+    tie.close
+    (tie.spec
+    (λ c κs. search needs)
+    (λ c κs. search needs)
+    (λ c κs. search needs)
+    (λ c κs. search needs)
+    (λ c κs. search needs)
+    (λ c κs. search needs)
+    (λ c. cc)
+    returns)

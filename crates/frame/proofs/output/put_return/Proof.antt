@@ -1,5 +1,5 @@
 -- With a sample mask the struct of colour and mask is returned, without one the colour.
-use mathlib.Core.Path.{refl, sym, _∙_}
+use mathlib.Core.Path.{sym, _∙_}
 use borrow.Author.Needs.{needs}
 use Rattle.text.proofs.Laws.{_⨾_, pick-true, pick-false}
 use Rattle.shader.specs.Output.{returnText}
@@ -27,13 +27,13 @@ put-return-spec =
     tie.close
     (tie.spec
     (λ c κs. search needs)
-    (λ c. refl)
-    (λ c κs. tt)
-    (λ c κs. tt)
-    (λ c. refl)
-    (λ c κs. tt)
-    (λ c. refl)
-    (λ c κs. tt)
+    (λ c. search needs)
+    (λ c κs. search needs)
+    (λ c κs. search needs)
+    (λ c. search needs)
+    (λ c κs. search needs)
+    (λ c. search needs)
+    (λ c κs. search needs)
     (λ c. search needs)
     returns
     (λ c. search needs)

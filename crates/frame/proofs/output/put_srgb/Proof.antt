@@ -1,5 +1,4 @@
 -- The line is there where the flag is set.
-use mathlib.Core.Path.{refl}
 use borrow.Author.Needs.{needs}
 use Rattle.shader.specs.Output.{srgbText}
 use Rattle.frame.proofs.output.put_srgb.Statement.{statement}
@@ -10,7 +9,7 @@ unfolding srgbText
 put-srgb-spec =
     tie.close
     (tie.spec
-    (λ c. refl)
-    (λ c κs. tt)
+    (λ c. search needs)
+    (λ c κs. search needs)
     (λ c. search needs)
     (λ c. c .before .before .put-when .ensures .written))

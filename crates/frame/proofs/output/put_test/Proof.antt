@@ -1,5 +1,5 @@
 -- Where the variant tests, the comparison stands between the two halves of the line; else nothing is written.
-use mathlib.Core.Path.{refl, sym, _∙_}
+use mathlib.Core.Path.{sym, _∙_}
 use borrow.Author.Needs.{needs}
 use Rattle.text.proofs.Laws.{_⨾_, pick-true, pick-false, nothing}
 use Rattle.shader.specs.Output.{testText}
@@ -24,11 +24,11 @@ put-test-spec =
     tie.close
     (tie.spec
     (λ c κs. search needs)
-    (λ c. refl)
-    (λ c κs. tt)
+    (λ c. search needs)
     (λ c κs. search needs)
-    (λ c. refl)
-    (λ c κs. tt)
+    (λ c κs. search needs)
+    (λ c. search needs)
+    (λ c κs. search needs)
     (λ c. search needs)
     returns
     returns-2)

@@ -1,5 +1,5 @@
 -- The two literals are the declaration of `current`, with that of `temp` behind it or without.
-use mathlib.Core.Path.{refl}
+use borrow.Author.Needs.{needs}
 use Rattle.text.proofs.Laws.{same}
 use Rattle.frame.proofs.Parts.{declared}
 use Rattle.frame.proofs.signature.put_locals.Statement.{statement}
@@ -9,8 +9,8 @@ pub put-locals-spec : {M : Type 1} → statement M
 put-locals-spec =
     tie.close
     (tie.spec
-    (λ c. refl)
-    (λ c. refl)
-    (λ c κs. tt)
+    (λ c. search needs)
+    (λ c. search needs)
+    (λ c κs. search needs)
     (λ c. cc)
     (λ c. same (declared _) (c .before .before .put-either .ensures .written)))

@@ -1,10 +1,10 @@
 -- The parameters in the order of `parametersText`: those that a test of the variant or of the survey asks for, then a texture and a sampler a stage.
 use mathlib.Core.Path.{ap}
-use Rattle.text.proofs.Laws.{_⨾_, keeps}
+use borrow.Author.Needs.{needs}
+use Rattle.text.proofs.Laws.{_⨾_, keeps, regroup}
 use Rattle.cascade.specs.Survey.{surveyOf}
 use Rattle.cascade.specs.declared.Survey.{Survey}
 use Rattle.shader.specs.Whole.{parametersText}
-use Rattle.frame.proofs.Parts.{regroup}
 use Rattle.frame.proofs.Samplers.{survey-count}
 use Rattle.frame.proofs.signature.put_parameters.Statement.{statement}
 use Rattle.frame.proofs.signature.put_parameters.Tie as tie
@@ -43,21 +43,21 @@ pub put-parameters-spec : {M : Type 1} → statement M
 put-parameters-spec =
     tie.close
     (tie.spec
-    (λ c κs. search)
-    (λ c κs. search)
-    (λ c κs. search)
-    (λ c. search)
-    (λ c κs. search)
-    (λ c κs. search)
-    (λ c. search)
-    (λ c κs. search)
-    (λ c. search)
-    (λ c κs. search)
-    (λ c κs. search)
-    (λ c. search)
-    (λ c κs. search)
+    (λ c κs. search needs)
+    (λ c κs. search needs)
+    (λ c κs. search needs)
+    (λ c. search needs)
+    (λ c κs. search needs)
+    (λ c κs. search needs)
+    (λ c. search needs)
+    (λ c κs. search needs)
+    (λ c. search needs)
+    (λ c κs. search needs)
+    (λ c κs. search needs)
+    (λ c. search needs)
+    (λ c κs. search needs)
     put-samplers-requires
-    (λ c. search)
-    (λ c κs. search)
+    (λ c. search needs)
+    (λ c κs. search needs)
     (λ c. keeps (returns c))
     returns)

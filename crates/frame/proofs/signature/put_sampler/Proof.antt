@@ -1,6 +1,5 @@
 -- A stage with a texture has the texture's parameter and the sampler's, by the type that the variant gives it.
-use mathlib.Core.Path.{refl}
-use native.Mathlib.Omega.{arith}
+use borrow.Author.Needs.{needs}
 use Rattle.text.proofs.Laws.{_⨾_, keeps, same, pick-true, pick-false, nothing}
 use Rattle.frame.proofs.Parts.{paired}
 use Rattle.frame.proofs.signature.put_sampler.Statement.{statement}
@@ -18,10 +17,10 @@ pub put-sampler-spec : {M : Type 1} → statement M
 put-sampler-spec =
     tie.close
     (tie.spec
-    (λ c κs. tt)
-    (λ c κs. search)
-    (λ c. refl)
-    (λ c κs. omega arith)
+    (λ c κs. search needs)
+    (λ c κs. search needs)
+    (λ c. search needs)
+    (λ c κs. search needs)
     (λ c. keeps (returns c))
     returns
     (λ c. pick-false (c .if1 .left) (nothing _ _)))

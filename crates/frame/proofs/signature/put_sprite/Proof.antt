@@ -1,6 +1,6 @@
 -- A point sprite's coordinates are written in one piece; without one nothing is.
-use mathlib.Core.Path.{refl}
 use mathlib.Core.Bool.{true, false}
+use borrow.Author.Needs.{needs}
 use Rattle.text.proofs.Laws.{nothing, by-test}
 use Rattle.shader.specs.Whole.{spriteText}
 use Rattle.frame.proofs.Parts.{sprites, no-sprites}
@@ -16,4 +16,4 @@ returns-2 : tie.Need-returns-2
 returns-2 c = by-test spriteText _ false (c .if1 .left) no-sprites (nothing _ _)
 
 pub put-sprite-spec : {M : Type 1} → statement M
-put-sprite-spec = tie.close (tie.spec (λ c. refl) (λ c κs. tt) (λ c. cc) returns returns-2)
+put-sprite-spec = tie.close (tie.spec (λ c. search needs) (λ c κs. search needs) (λ c. cc) returns returns-2)

@@ -1,5 +1,5 @@
 -- The two literals are the first parameters, with a point sprite's or without, and the constants behind them.
-use mathlib.Core.Path.{refl}
+use borrow.Author.Needs.{needs}
 use Rattle.text.proofs.Laws.{same}
 use Rattle.frame.proofs.Parts.{begins}
 use Rattle.frame.proofs.signature.put_stage_in.Statement.{statement}
@@ -9,8 +9,8 @@ pub put-stage-in-spec : {M : Type 1} → statement M
 put-stage-in-spec =
     tie.close
     (tie.spec
-    (λ c. refl)
-    (λ c. refl)
-    (λ c κs. tt)
+    (λ c. search needs)
+    (λ c. search needs)
+    (λ c κs. search needs)
     (λ c. cc)
     (λ c. same (begins _) (c .before .before .put-either .ensures .written)))

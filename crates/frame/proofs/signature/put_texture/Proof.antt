@@ -1,6 +1,6 @@
 -- Each arm writes the parameter with the type that it matched.
 use mathlib.Core.Path.{refl}
-use native.Mathlib.Omega.{arith}
+use borrow.Author.Needs.{needs}
 use Rattle.text.proofs.Laws.{same}
 use Rattle.frame.proofs.signature.put_texture.Statement.{statement}
 use Rattle.frame.proofs.signature.put_texture.Tie as tie
@@ -9,18 +9,18 @@ pub put-texture-spec : {M : Type 1} → statement M
 put-texture-spec =
     tie.close
     (tie.spec
-    (λ c. c .match .keys1)
-    (λ c. refl)
-    (λ c κs. omega arith)
-    (λ c. c .match .keys2)
-    (λ c. refl)
-    (λ c κs. omega arith)
-    (λ c. c .match .keys3)
-    (λ c. refl)
-    (λ c κs. omega arith)
-    (λ c. c .match .keys4)
-    (λ c. refl)
-    (λ c κs. omega arith)
+    (λ c. search needs)
+    (λ c. search needs)
+    (λ c κs. search needs)
+    (λ c. search needs)
+    (λ c. search needs)
+    (λ c κs. search needs)
+    (λ c. search needs)
+    (λ c. search needs)
+    (λ c κs. search needs)
+    (λ c. search needs)
+    (λ c. search needs)
+    (λ c κs. search needs)
     (λ c. cc)
     (λ c. rw (c .before .before .before .before .before .enum-told .given .1) (same refl (c .before .before .put-numbered .ensures .written)))
     (λ c. cc)

@@ -1,5 +1,6 @@
 -- The stage's own tests are those of `beforeOf`.
 use mathlib.Core.Path.{sym, _∙_}
+use borrow.Author.Needs.{needs}
 use Rattle.shader.specs.Lookups.{beforeOf}
 use Rattle.function.proofs.stages.before_of.Statement.{statement}
 use Rattle.function.proofs.stages.before_of.Tie as tie
@@ -15,4 +16,4 @@ unfolding beforeOf
 returns-2 c = rw (sym (c .before .is-bump .ensures) ∙ c .if1 .left)
 
 pub before-of-spec : {M : Type 1} → statement M
-before-of-spec = tie.close (tie.spec (λ c κs. tt) (λ c κs. tt) (λ c κs. tt) returns returns-2)
+before-of-spec = tie.close (tie.spec (λ c κs. search needs) (λ c κs. search needs) (λ c κs. search needs) returns returns-2)

@@ -31,27 +31,29 @@ put-marked-requires c κs =
     let stage = c .before .before .before .loop .inv .3 in
     (omega arith, stage .ahead, omega (arith, stage .few))
 
+-- from where a stage is decoded, back to its lookup and to the loop's test
+abbrev lookup-of : tie.After-decode Inv-loop μ-loop → tie.After-put-marked Inv-loop μ-loop
+lookup-of decoded = decoded .before .before .before .before
+
+abbrev test-of : tie.After-decode Inv-loop μ-loop → tie.In-loop Inv-loop μ-loop
+test-of decoded = decoded .before .before .before .before .before .before .before
+
 -- a bump stage
 loop-again : tie.Need-loop-again Inv-loop μ-loop
 loop-again c =
     let decoded = c .before .before in
-    let next = decoded .before in
-    let lookup = next .before .before .before in
-    let test = lookup .before .before .before in
-    let l = test .before in
-    let a = l .before .before .args in
-    let v = l .loop .inv in
-    let i = l .loop .i in
-    let w = no-line (a .u .live) i _ (decoded .decode .ensures) (c .enum-told .given .1) in
-    let m = lookup .put-marked .ensures in
-    let below : i < activeCount (a .t3 .stages) = omega (arith, test .loop-test .taken, v .2) in
-    let t = stages-turn (a .v) (a .t3 .projected) (a .u .live) (a .t3 .stages) _ _ i _ below (v .3) (m .0) w (m .1) in
-    (omega (arith, test .loop-test .taken), v .1, v .2, rw (next .before-of .ensures) t)
+    let test = test-of decoded in
+    let l = test .before .loop in
+    let a = test .before .before .before .args in
+    let m = lookup-of decoded .put-marked .ensures in
+    let w = no-line (a .u .live) (l .i) _ (decoded .decode .ensures) (c .enum-told .given .1) in
+    let below : l .i < activeCount (a .t3 .stages) = omega (arith, test .loop-test .taken, l .inv .2) in
+    let t = stages-turn (a .v) (a .t3 .projected) (a .u .live) (a .t3 .stages) _ _ (l .i) _ below (l .inv .3) (m .0) w (m .1) in
+    (omega (arith, test .loop-test .taken), l .inv .1, l .inv .2, rw (decoded .before .before-of .ensures) t)
 
 put-stage-line-requires : tie.Need-put-stage-line-requires Inv-loop μ-loop
 put-stage-line-requires c κs =
-    let decoded = c .before .before .before .before in
-    let test = decoded .before .before .before .before .before .before .before in
+    let test = test-of (c .before .before .before .before) in
     omega (arith, test .loop-test .taken, test .before .loop .inv .1)
 
 -- another
@@ -60,18 +62,14 @@ loop-again-2 c =
     let line = c .before .before in
     let told = line .before .before .before in
     let decoded = told .before .before in
-    let next = decoded .before in
-    let lookup = next .before .before .before in
-    let test = lookup .before .before .before in
-    let l = test .before in
-    let a = l .before .before .args in
-    let v = l .loop .inv in
-    let i = l .loop .i in
-    let w = a-line (a .u .live) i _ (decoded .decode .ensures) (told .d .given .1) (line .put-stage-line .ensures) in
-    let m = lookup .put-marked .ensures in
-    let below : i < activeCount (a .t3 .stages) = omega (arith, test .loop-test .taken, v .2) in
-    let t = stages-turn (a .v) (a .t3 .projected) (a .u .live) (a .t3 .stages) _ _ i _ below (v .3) (m .0) w (m .1) in
-    (omega (arith, test .loop-test .taken), v .1, v .2, rw (next .before-of .ensures) t)
+    let test = test-of decoded in
+    let l = test .before .loop in
+    let a = test .before .before .before .args in
+    let m = lookup-of decoded .put-marked .ensures in
+    let w = a-line (a .u .live) (l .i) _ (decoded .decode .ensures) (told .d .given .1) (line .put-stage-line .ensures) in
+    let below : l .i < activeCount (a .t3 .stages) = omega (arith, test .loop-test .taken, l .inv .2) in
+    let t = stages-turn (a .v) (a .t3 .projected) (a .u .live) (a .t3 .stages) _ _ (l .i) _ below (l .inv .3) (m .0) w (m .1) in
+    (omega (arith, test .loop-test .taken), l .inv .1, l .inv .2, rw (decoded .before .before-of .ensures) t)
 
 returns : tie.Need-returns Inv-loop μ-loop
 returns c =
@@ -86,19 +84,19 @@ put-stages-spec =
     Inv-loop
     μ-loop
     loop-holds
-    (λ c. omega arith)
-    (λ c. omega arith)
-    (λ c. omega arith)
+    (λ c. search needs)
+    (λ c. search needs)
+    (λ c. search needs)
     put-marked-requires
     (λ c κs. search needs)
-    (λ c. omega arith)
+    (λ c. search needs)
     (λ c κs. search needs)
     (λ c. search needs)
     (λ c. search needs)
-    (λ c. omega arith)
+    (λ c. search needs)
     loop-again
     put-stage-line-requires
-    (λ c. omega arith)
+    (λ c. search needs)
     loop-again-2
     (λ c. c .before .loop .inv .3 .kept)
     returns)

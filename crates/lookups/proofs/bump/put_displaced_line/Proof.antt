@@ -1,6 +1,5 @@
 -- The name, the coordinate moved, and its other two components.
-use mathlib.Core.Path.{refl}
-use native.Mathlib.Omega.{arith}
+use borrow.Author.Needs.{needs}
 use Rattle.text.proofs.Laws.{_⨾_, same}
 use Rattle.lookups.proofs.Lines.{displaces}
 use Rattle.lookups.proofs.bump.put_displaced_line.Statement.{statement}
@@ -22,13 +21,13 @@ pub put-displaced-line-spec : {M : Type 1} → statement M
 put-displaced-line-spec =
     tie.close
     (tie.spec
-    (λ c. refl)
-    (λ c κs. omega arith)
-    (λ c κs. search)
-    (λ c. refl)
-    (λ c κs. tt)
-    (λ c κs. search)
-    (λ c. refl)
-    (λ c κs. tt)
+    (λ c. search needs)
+    (λ c κs. search needs)
+    (λ c κs. search needs)
+    (λ c. search needs)
+    (λ c κs. search needs)
+    (λ c κs. search needs)
+    (λ c. search needs)
+    (λ c κs. search needs)
     (λ c. cc)
     returns)

@@ -1,6 +1,5 @@
 -- The literal is the line of `dividedLine`.
-use mathlib.Core.Path.{refl}
-use native.Mathlib.Omega.{arith}
+use borrow.Author.Needs.{needs}
 use Rattle.text.proofs.Laws.{same}
 use Rattle.lookups.proofs.Lines.{divided}
 use Rattle.lookups.proofs.bump.put_divided_line.Statement.{statement}
@@ -14,7 +13,7 @@ pub put-divided-line-spec : {M : Type 1} → statement M
 put-divided-line-spec =
     tie.close
     (tie.spec
-    (λ c. refl)
-    (λ c κs. omega arith)
+    (λ c. search needs)
+    (λ c κs. search needs)
     (λ c. cc)
     returns)

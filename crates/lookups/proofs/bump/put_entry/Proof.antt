@@ -1,6 +1,6 @@
 -- The row, and the numbered text behind it.
+use borrow.Author.Needs.{needs}
 use Rattle.text.proofs.Laws.{texts}
-use native.Mathlib.Omega.{arith}
 use Rattle.lookups.proofs.bump.put_entry.Statement.{statement}
 use Rattle.lookups.proofs.bump.put_entry.Tie as tie
 
@@ -8,8 +8,8 @@ pub put-entry-spec : {M : Type 1} → statement M
 put-entry-spec =
     tie.close
     (tie.spec
-    (λ c. omega (arith))
-    (λ c κs. tt)
-    (λ c κs. omega arith)
+    (λ c. search needs)
+    (λ c κs. search needs)
+    (λ c κs. search needs)
     (λ c. cc)
     (λ c. search texts))

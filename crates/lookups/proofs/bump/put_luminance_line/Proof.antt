@@ -1,6 +1,5 @@
 -- The texel's name, the scaled luminance, the row and the line's end.
-use mathlib.Core.Path.{refl}
-use native.Mathlib.Omega.{arith}
+use borrow.Author.Needs.{needs}
 use Rattle.text.proofs.Laws.{_⨾_, same}
 use Rattle.lookups.proofs.Lines.{lights}
 use Rattle.lookups.proofs.bump.put_luminance_line.Statement.{statement}
@@ -20,13 +19,13 @@ pub put-luminance-line-spec : {M : Type 1} → statement M
 put-luminance-line-spec =
     tie.close
     (tie.spec
-    (λ c. refl)
-    (λ c κs. omega arith)
-    (λ c κs. omega arith)
-    (λ c. omega arith)
-    (λ c. omega arith)
-    (λ c κs. tt)
-    (λ c. refl)
-    (λ c κs. tt)
+    (λ c. search needs)
+    (λ c κs. search needs)
+    (λ c κs. search needs)
+    (λ c. search needs)
+    (λ c. search needs)
+    (λ c κs. search needs)
+    (λ c. search needs)
+    (λ c κs. search needs)
     (λ c. cc)
     returns)

@@ -1,6 +1,5 @@
 -- The coordinate, and the four entries of the matrix with what is done with each.
-use mathlib.Core.Path.{refl}
-use native.Mathlib.Omega.{arith}
+use borrow.Author.Needs.{needs}
 use Rattle.text.proofs.Laws.{_⨾_, same}
 use Rattle.shader.specs.Lookups.{coordinateText}
 use Rattle.lookups.proofs.Lines.{moves}
@@ -24,16 +23,16 @@ pub put-moved-spec : {M : Type 1} → statement M
 put-moved-spec =
     tie.close
     (tie.spec
-    (λ c κs. search)
-    (λ c. refl)
-    (λ c κs. tt)
-    (λ c. refl)
-    (λ c κs. omega arith)
-    (λ c. refl)
-    (λ c κs. omega arith)
-    (λ c. refl)
-    (λ c κs. omega arith)
-    (λ c. refl)
-    (λ c κs. omega arith)
+    (λ c κs. search needs)
+    (λ c. search needs)
+    (λ c κs. search needs)
+    (λ c. search needs)
+    (λ c κs. search needs)
+    (λ c. search needs)
+    (λ c κs. search needs)
+    (λ c. search needs)
+    (λ c κs. search needs)
+    (λ c. search needs)
+    (λ c κs. search needs)
     (λ c. cc)
     returns)

@@ -1,7 +1,6 @@
 -- With a texture, its luminance by the row's scale; without one nothing.
 use Prim.Native.Nat.{_+_, _*_}
-use mathlib.Core.Path.{refl}
-use native.Mathlib.Omega.{arith}
+use borrow.Author.Needs.{needs}
 use Rattle.text.proofs.Laws.{_⨾_, same, pick-true, pick-false, nothing}
 use Rattle.shader.specs.Lookups.{bumpRow}
 use Rattle.lookups.proofs.Lines.{scales}
@@ -22,13 +21,13 @@ pub put-scaled-spec : {M : Type 1} → statement M
 put-scaled-spec =
     tie.close
     (tie.spec
-    (λ c. refl)
-    (λ c κs. omega arith)
-    (λ c. omega arith)
-    (λ c. omega arith)
-    (λ c κs. tt)
-    (λ c. refl)
-    (λ c κs. tt)
+    (λ c. search needs)
+    (λ c κs. search needs)
+    (λ c. search needs)
+    (λ c. search needs)
+    (λ c κs. search needs)
+    (λ c. search needs)
+    (λ c κs. search needs)
     (λ c. cc)
     returns
     (λ c. pick-false (c .if1 .left) (nothing _ _)))

@@ -1,5 +1,5 @@
 -- The coordinate, and its components with the dot in front of them.
-use mathlib.Core.Path.{refl}
+use borrow.Author.Needs.{needs}
 use Rattle.text.proofs.Laws.{_⨾_}
 use Rattle.lookups.proofs.Laws.{dotted}
 use Rattle.lookups.proofs.coordinates.put_swizzled.Statement.{statement}
@@ -15,9 +15,9 @@ pub put-swizzled-spec : {M : Type 1} → statement M
 put-swizzled-spec =
     tie.close
     (tie.spec
-    (λ c κs. search)
-    (λ c. refl)
-    (λ c. refl)
-    (λ c κs. tt)
+    (λ c κs. search needs)
+    (λ c. search needs)
+    (λ c. search needs)
+    (λ c κs. search needs)
     (λ c. cc)
     returns)

@@ -1,6 +1,5 @@
 -- With the flag the bias is the row's, without it nothing is written.
-use mathlib.Core.Path.{refl}
-use native.Mathlib.Omega.{arith}
+use borrow.Author.Needs.{needs}
 use Rattle.text.proofs.Laws.{same, pick-true, pick-false, nothing}
 use Rattle.lookups.proofs.Lines.{biased}
 use Rattle.lookups.proofs.samples.put_bias.Statement.{statement}
@@ -15,8 +14,8 @@ pub put-bias-spec : {M : Type 1} → statement M
 put-bias-spec =
     tie.close
     (tie.spec
-    (λ c. refl)
-    (λ c κs. omega arith)
+    (λ c. search needs)
+    (λ c κs. search needs)
     (λ c. cc)
     returns
     (λ c. pick-false (c .if1 .left) (nothing _ _)))

@@ -1,6 +1,5 @@
 -- The line of a depth fetch: the coordinate, the level, and the other components where the depth is in red alone.
-use mathlib.Core.Path.{refl}
-use native.Mathlib.Omega.{arith}
+use borrow.Author.Needs.{needs}
 use Rattle.text.proofs.Laws.{_⨾_, same}
 use Rattle.lookups.proofs.Lines.{fetched}
 use Rattle.lookups.proofs.samples.put_depth_line.Statement.{statement}
@@ -22,14 +21,14 @@ pub put-depth-line-spec : {M : Type 1} → statement M
 put-depth-line-spec =
     tie.close
     (tie.spec
-    (λ c. refl)
-    (λ c κs. omega arith)
-    (λ c κs. search)
-    (λ c. refl)
-    (λ c κs. tt)
-    (λ c κs. search)
-    (λ c. refl)
-    (λ c. refl)
-    (λ c κs. tt)
+    (λ c. search needs)
+    (λ c κs. search needs)
+    (λ c κs. search needs)
+    (λ c. search needs)
+    (λ c κs. search needs)
+    (λ c κs. search needs)
+    (λ c. search needs)
+    (λ c. search needs)
+    (λ c κs. search needs)
     (λ c. cc)
     returns)

@@ -1,6 +1,5 @@
 -- The line of a gather: the coordinate, half a texel, the component.
-use mathlib.Core.Path.{refl}
-use native.Mathlib.Omega.{arith}
+use borrow.Author.Needs.{needs}
 use Rattle.text.proofs.Laws.{_⨾_, same}
 use Rattle.shader.specs.Lookups.{coordinateText}
 use Rattle.lookups.proofs.Lines.{gathered}
@@ -23,14 +22,14 @@ pub put-gather-line-spec : {M : Type 1} → statement M
 put-gather-line-spec =
     tie.close
     (tie.spec
-    (λ c. refl)
-    (λ c κs. omega arith)
-    (λ c κs. search)
-    (λ c. refl)
-    (λ c κs. omega arith)
-    (λ c. refl)
-    (λ c κs. tt)
-    (λ c. refl)
-    (λ c κs. tt)
+    (λ c. search needs)
+    (λ c κs. search needs)
+    (λ c κs. search needs)
+    (λ c. search needs)
+    (λ c κs. search needs)
+    (λ c. search needs)
+    (λ c κs. search needs)
+    (λ c. search needs)
+    (λ c κs. search needs)
     (λ c. cc)
     returns)

@@ -1,7 +1,6 @@
 -- The level is that of `levelText` for the flag.
-use mathlib.Core.Path.{refl}
 use mathlib.Core.Bool.{Bool, true, false}
-use native.Mathlib.Omega.{arith}
+use borrow.Author.Needs.{needs}
 use Rattle.text.proofs.Laws.{by-test}
 use Rattle.shader.specs.Lookups.{levelText}
 use Rattle.lookups.proofs.Lines.{leveled, unleveled}
@@ -26,10 +25,10 @@ pub put-level-spec : {M : Type 1} → statement M
 put-level-spec =
     tie.close
     (tie.spec
-    (λ c. refl)
-    (λ c κs. omega arith)
-    (λ c. refl)
-    (λ c κs. tt)
+    (λ c. search needs)
+    (λ c κs. search needs)
+    (λ c. search needs)
+    (λ c κs. search needs)
     (λ c. cc)
     returns
     (λ c. cc)

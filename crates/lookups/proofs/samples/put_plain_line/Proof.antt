@@ -1,6 +1,5 @@
 -- The line of a sample: the coordinate and the bias.
-use mathlib.Core.Path.{refl}
-use native.Mathlib.Omega.{arith}
+use borrow.Author.Needs.{needs}
 use Rattle.text.proofs.Laws.{_⨾_, same}
 use Rattle.lookups.proofs.Lines.{sampled}
 use Rattle.lookups.proofs.samples.put_plain_line.Statement.{statement}
@@ -20,11 +19,11 @@ pub put-plain-line-spec : {M : Type 1} → statement M
 put-plain-line-spec =
     tie.close
     (tie.spec
-    (λ c. refl)
-    (λ c κs. omega arith)
-    (λ c κs. search)
-    (λ c κs. search)
-    (λ c. refl)
-    (λ c κs. tt)
+    (λ c. search needs)
+    (λ c κs. search needs)
+    (λ c κs. search needs)
+    (λ c κs. search needs)
+    (λ c. search needs)
+    (λ c κs. search needs)
     (λ c. cc)
     returns)

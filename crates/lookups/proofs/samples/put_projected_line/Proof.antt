@@ -1,6 +1,5 @@
 -- The name, the tested quotient and the zero behind it.
-use mathlib.Core.Path.{refl}
-use native.Mathlib.Omega.{arith}
+use borrow.Author.Needs.{needs}
 use Rattle.text.proofs.Laws.{_⨾_, same}
 use Rattle.shader.specs.Lookups.{coordinateText}
 use Rattle.lookups.proofs.Lines.{projects}
@@ -20,10 +19,10 @@ pub put-projected-line-spec : {M : Type 1} → statement M
 put-projected-line-spec =
     tie.close
     (tie.spec
-    (λ c. refl)
-    (λ c κs. omega arith)
-    (λ c κs. search)
-    (λ c. refl)
-    (λ c κs. tt)
+    (λ c. search needs)
+    (λ c κs. search needs)
+    (λ c κs. search needs)
+    (λ c. search needs)
+    (λ c κs. search needs)
     (λ c. cc)
     returns)
