@@ -9,6 +9,7 @@ use borrow.Author.Tests.{ne-eqb}
 use lib.Dec.{eqb}
 use lib.ListN.{length, take, drop, getD, drop-of-length-le}
 use lib.Seq.{drop-cons, getD-take, length-take-le}
+use Rattle.combiners.specs.Codes.{disable}
 use Rattle.cascade.specs.Keys.{active, activeCount}
 use Rattle.values.specs.declared.Stage.{Stage}
 
@@ -30,12 +31,12 @@ module _ (b : Bool) (s : Stage) (r : List Stage) (n : ℕ) where
 pub active-take : (l : List Stage) → active l ≡ take (activeCount l) l
 unfolding active activeCount
 active-take [] = refl
-active-take (s ∷ r) = cond-take (eqb (s .colour .op) 1) s r (activeCount r) (active-take r)
+active-take (s ∷ r) = cond-take (eqb (s .colour .op) disable) s r (activeCount r) (active-take r)
 
 pub count-le : (l : List Stage) → activeCount l ≤ length l
 unfolding activeCount
 count-le [] = omega arith
-count-le (s ∷ r) = cond-le (eqb (s .colour .op) 1) s r (activeCount r) (count-le r)
+count-le (s ∷ r) = cond-le (eqb (s .colour .op) disable) s r (activeCount r) (count-le r)
 
 -- the active stages from the i-th on: that one, and those behind it
 pub here : (l : List Stage) (i : ℕ) (d : Stage) → i < activeCount l → drop i (active l) ≡ getD l i d ∷ drop (i + 1) (active l)
@@ -55,11 +56,11 @@ pub over : (l : List Stage) (i : ℕ) → length l ≤ i → activeCount (drop i
 unfolding activeCount
 over l i h = rw (drop-of-length-le l h)
 
-pub off : (l : List Stage) (i : ℕ) (d : Stage) → i < length l → getD l i d .colour .op ≡ 1 → activeCount (drop i l) ≡ 0
+pub off : (l : List Stage) (i : ℕ) (d : Stage) → i < length l → getD l i d .colour .op ≡ disable → activeCount (drop i l) ≡ 0
 unfolding activeCount
 off l i d h e = rw (drop-cons l i d h, e)
 
-pub on : (l : List Stage) (i : ℕ) (d : Stage) → i < length l → (getD l i d .colour .op ≡ 1 → ⊥)
+pub on : (l : List Stage) (i : ℕ) (d : Stage) → i < length l → (getD l i d .colour .op ≡ disable → ⊥)
     → activeCount (drop i l) ≡ suc (activeCount (drop (i + 1) l))
 unfolding activeCount
 on l i d h e = rw (add-one, drop-cons l i d h, ne-eqb _ _ e)

@@ -2,7 +2,6 @@
 use crate::Alpha;
 use crate::Decoded;
 use crate::Expressions;
-use crate::codes::D3DTOP_DISABLE;
 use crate::keys::alpha_from_colour;
 use crate::keys::falls_back;
 use crate::keys::is_bump;
@@ -13,6 +12,7 @@ use combiners::Expression;
 use combiners::Op;
 use combiners::Source;
 use combiners::arguments::arg_of;
+use combiners::codes::*;
 use combiners::ops::op_of;
 use values::Combiner;
 use values::Stage;

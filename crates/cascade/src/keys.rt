@@ -1,17 +1,7 @@
 //! What a stage and its combiners say by themselves: textures, reads, fallback, bump, constants; and the count of active stages.
 //!
 //! A rule that rarely applies first tests for the rare argument, and returns early without it.
-use crate::codes::D3DTA_CONSTANT;
-use crate::codes::D3DTA_TEXTURE;
-use crate::codes::D3DTA_TFACTOR;
-use crate::codes::D3DTOP_BLENDFACTORALPHA;
-use crate::codes::D3DTOP_BUMPENVMAP;
-use crate::codes::D3DTOP_BUMPENVMAPLUMINANCE;
-use crate::codes::D3DTOP_DISABLE;
-use crate::codes::D3DTOP_DOTPRODUCT3;
-use crate::codes::D3DTOP_SELECTARG1;
-use crate::codes::D3DTOP_SELECTARG2;
-use crate::codes::SELECTORS;
+use combiners::codes::*;
 use values::Combiner;
 use values::Key;
 use values::Stage;

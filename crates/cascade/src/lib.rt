@@ -1,5 +1,4 @@
 //! The cascade of a key: its active stages, and what each reads and writes.
-mod codes;
 pub mod decode;
 pub mod keys;
 mod plain;

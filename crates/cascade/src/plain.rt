@@ -1,8 +1,6 @@
 //! Plain stages: most name neither a constant, nor the factor, nor TEMP, and no selector or modifier that warns.
-use crate::codes::D3DTA_SPECULAR;
-use crate::codes::D3DTA_TFACTOR;
-use crate::codes::SELECTORS;
-use crate::codes::UNKNOWN_MODIFIERS;
+use crate::warnings::UNKNOWN_MODIFIERS;
+use combiners::codes::*;
 use values::Combiner;
 use values::Stage;
 ghost use mathlib.Core.Path.{_≡_};

@@ -1,22 +1,11 @@
 //! The reading rule: what the expressions of a stage read, by its key alone.
-use crate::codes::D3DTA_TEMP;
-use crate::codes::D3DTA_TEXTURE;
-use crate::codes::D3DTOP_BLENDCURRENTALPHA;
-use crate::codes::D3DTOP_BLENDTEXTUREALPHA;
-use crate::codes::D3DTOP_BLENDTEXTUREALPHAPM;
-use crate::codes::D3DTOP_BUMPENVMAPLUMINANCE;
-use crate::codes::D3DTOP_DISABLE;
-use crate::codes::D3DTOP_DOTPRODUCT3;
-use crate::codes::D3DTOP_MODULATEALPHA_ADDCOLOR;
-use crate::codes::D3DTOP_MODULATEINVCOLOR_ADDALPHA;
-use crate::codes::D3DTOP_SELECTARG1;
-use crate::codes::D3DTOP_SELECTARG2;
 use crate::keys::alpha_from_colour;
 use crate::keys::falls_back;
 use crate::keys::is_bump_op;
 use crate::keys::selects;
 use crate::keys::textured;
 use crate::keys::to_temp;
+use combiners::codes::*;
 use values::Combiner;
 use values::Stage;
 ghost use mathlib.Core.Path.{_≡_};

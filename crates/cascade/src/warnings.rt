@@ -1,20 +1,21 @@
 //! What a stage warns of: an op without a text, a selector or a modifier without a meaning, where its combiners are applied.
 //!
 //! Few combiners give a cause, so each rule tests for one first, and returns early without it.
-use crate::codes::D3DTA_CONSTANT;
-use crate::codes::SELECTORS;
-use crate::codes::UNKNOWN_MODIFIERS;
 use crate::keys::falls_back;
 use crate::keys::is_bump;
 use crate::keys::textured;
 use crate::reading::alpha_written;
 use crate::reading::has_text;
+use combiners::codes::*;
 use values::Combiner;
 use values::Stage;
 ghost use mathlib.Core.Path.{_≡_};
 ghost use mathlib.Core.Bool.{_&&_, _||_};
 ghost use Rattle.cascade.specs.Keys.{either};
 ghost use Rattle.cascade.specs.Warnings.{withoutText, unknownSelector, unknownModifier, appliesColour, appliesAlpha, warns};
+
+// An argument from here on has a modifier bit above D3DTA_ALPHAREPLICATE, which means nothing.
+pub(crate) const UNKNOWN_MODIFIERS: u8 = 0x40;
 
 // The numbers of the three causes.
 pub(crate) const WARNING_OP: u8 = 1;
