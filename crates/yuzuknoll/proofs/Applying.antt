@@ -6,6 +6,8 @@ use mathlib.Core.List.{List, [], _∷_, _++_}
 use native.Mathlib.Omega.{arith}
 use borrow.Author.Tests.{eqb-true}
 use lib.Dec.{eqb}
+use denote.Enum.Declared.{tagOf}
+use types.Run.{OneOf, miss}
 use lib.ListN.{length, take, drop, getD}
 use lib.Seq.{sets, length-take-le}
 use Rattle.text.specs.Text.{raw}
@@ -19,6 +21,7 @@ use Rattle.wire.specs.Bodies.{kindByte, recordLength, keyFromBody, variantFromB
 use Rattle.wire.specs.Reading.{bodyNumber, recordNumber}
 use Rattle.wire.specs.declared.Kind.{Kind}
 use Rattle.wire.specs.declared.Kind.the-variants as kind
+use Rattle.wire.proofs.Kind.{the-type}
 use Rattle.records.specs.Applying.{holdsAll}
 use Rattle.yuzuknoll.specs.Lent.{after, recordNumbers, NamesHold}
 use Rattle.yuzuknoll.specs.Records.{kindIn}
@@ -99,7 +102,7 @@ module _ (held out apd : List ℕ) where
         let y = rw z at s in
         (y .0, (y .1 .0, (q ∙ ap (λ (l : List ℕ). recordNumbers kind.Emit ++ l) (y .1 .1 .0), λ _. rw q (y .1 .1 .1 refl))))
 
--- a record that is no emit record, and one that leaves held bytes as they are
+-- a record that is no emit record
 abbrev isEmit : Kind → ℕ
 isEmit k = onEmit k 1 0
 
@@ -109,6 +112,19 @@ other kind.Variant v x y = refl
 other kind.Entry v x y = refl
 other kind.Emit v x y = absurd (omega arith)
 
+pub no-emit : (k : Kind) → OneOf (0 ∷ 1 ∷ 2 ∷ []) (tagOf the-type k) → isEmit k ≡ 0
+no-emit kind.Key h = refl
+no-emit kind.Variant h = refl
+no-emit kind.Entry h = refl
+no-emit kind.Emit h = absurd (miss (0 ∷ 1 ∷ 2 ∷ []) 3 tt h)
+
+pub has-room : (k : Kind) → isEmit k ≡ 0 → placeOf k + recordLength k ≤ 113
+has-room kind.Key v = omega arith
+has-room kind.Variant v = omega arith
+has-room kind.Entry v = omega arith
+has-room kind.Emit v = absurd (omega arith)
+
+-- one that leaves held bytes as they are
 either-way : (t : Bool) (l : List ℕ) → l ≡ cond t l l
 either-way true l = refl
 either-way false l = refl

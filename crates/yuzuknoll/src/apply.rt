@@ -137,10 +137,9 @@ pub extern "C" fn yuzuknoll_apply(
     if number != ACCEPTED {
         return number;
     }
-    match kind_in(bytes) {
-        Kind::Key => keep_record(Kind::Key, bytes, held, applied),
-        Kind::Variant => keep_record(Kind::Variant, bytes, held, applied),
-        Kind::Entry => keep_record(Kind::Entry, bytes, held, applied),
+    let kind = kind_in(bytes);
+    match kind {
         Kind::Emit => emit_record(held, text, applied),
+        _ => keep_record(kind, bytes, held, applied),
     }
 }
