@@ -59,7 +59,7 @@ body-length kind.Emit r h = refl
 pub record-length : (r : Record) → Shaped r → length (recordBytes r) ≡ recordLength (r .kind)
 record-length r h = omega (arith, body-length (r .kind) r h)
 
-stages-blank : length (blankKey .stages) ≡ 8
+pub stages-blank : length (blankKey .stages) ≡ 8
 unfolding blankKey
 stages-blank = refl
 
