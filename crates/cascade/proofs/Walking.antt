@@ -32,16 +32,15 @@ begin l n h e = record { within = omega arith; few = omega (arith, count-le l); 
 pub down : (l : List Stage) (n i : ℕ) → Walk l n i → Walk l n (i - 1)
 down l n i w = record { within = omega (arith, w .within); few = w .few; counted = w .counted; eight = w .eight }
 
--- What is carried is a function of the stages behind; `cons` says what one more in front adds.
-module _ {A : Type 0} (P : ℕ → List Stage → A) (add : ℕ → Stage → A → A) where
-  module _ (cons : (i : ℕ) (s : Stage) (r : List Stage) → add i s (P (suc i) r) ≡ P i (s ∷ r)) where
-    pub more : (l : List Stage) (n i : ℕ) (d : Stage) (x y : A) → Walk l n i → 0 < i → x ≡ P i (drop i (active l)) → y ≡ add (i - 1) (getD l (i - 1) d) x
-        → y ≡ P (i - 1) (drop (i - 1) (active l))
-    more l n i d x y w p e k =
-        let j = i - 1 in
-        let s : i ≡ j + 1 = omega arith in
-        let q : j < activeCount l = omega (arith, w .within, w .counted) in
-        k ∙ rw (rw s at e, here l j d q, add-one) (cons j (getD l j d) (drop (suc j) (active l)))
+-- What is carried is a function P of the stages from i on, and `add` puts one more in front of them.
+more : {A : Type 0} (P : ℕ → List Stage → A) (add : ℕ → Stage → A → A) → ((i : ℕ) (s : Stage) (r : List Stage) → add i s (P (suc i) r) ≡ P i (s ∷ r))
+    → (l : List Stage) (n i : ℕ) (d : Stage) (x y : A) → Walk l n i → 0 < i → x ≡ P i (drop i (active l)) → y ≡ add (i - 1) (getD l (i - 1) d) x
+    → y ≡ P (i - 1) (drop (i - 1) (active l))
+more P add cons l n i d x y w p e k =
+    let j = i - 1 in
+    let s : i ≡ j + 1 = omega arith in
+    let q : j < activeCount l = omega (arith, w .within, w .counted) in
+    k ∙ rw (rw s at e, here l j d q, add-one) (cons j (getD l j d) (drop (suc j) (active l)))
 
 facts-cons : (i : ℕ) (s : Stage) (r : List Stage) → addFact i s (factsOf (suc i) r) ≡ factsOf i (s ∷ r)
 unfolding factsOf maskOf lastConstant anyFactor live anyWarns

@@ -1,6 +1,6 @@
 //! What a stage and its combiners say by themselves: textures, reads, fallback, bump, constants; and the count of active stages.
 //!
-//! Most arguments select neither the constant nor TEMP, so each rule asks for that first.
+//! A rule that rarely applies first tests for the rare argument, and returns early without it.
 use crate::codes::D3DTA_CONSTANT;
 use crate::codes::D3DTA_TEXTURE;
 use crate::codes::D3DTA_TFACTOR;

@@ -1,6 +1,6 @@
 //! What a stage warns of: an op without a text, a selector or a modifier without a meaning, where its combiners are applied.
 //!
-//! Few combiners give a cause, so each rule asks for that first.
+//! Few combiners give a cause, so each rule tests for one first, and returns early without it.
 use crate::codes::D3DTA_CONSTANT;
 use crate::codes::SELECTORS;
 use crate::codes::UNKNOWN_MODIFIERS;

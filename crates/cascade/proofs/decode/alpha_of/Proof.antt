@@ -28,26 +28,26 @@ returns-2 c = let own = c .before .before in rw (sym (own .before .alpha-from-co
 returns-3 : tie.Need-returns-3
 returns-3 c =
     let falls = c .before in
-    let active = falls .before .before in
-    let own = active .before .before in
-    rw (on _ (sym (own .before .alpha-from-colour .ensures) ∙ own .if1 .left) (active .if2 .left), ← own .before .before .textured .ensures)
+    let enabled = falls .before .before in
+    let own = enabled .before .before in
+    rw (on _ (sym (own .before .alpha-from-colour .ensures) ∙ own .if1 .left) (enabled .if2 .left), ← own .before .before .textured .ensures)
     (rw (sym (falls .before .falls-back .ensures) ∙ falls .if3 .taken) (ap Written (c .fallback .ensures)))
 
 returns-4 : tie.Need-returns-4
 returns-4 c =
     let bound = c .before .before in
-    let active = bound .before .before in
-    let own = active .before .before in
-    rw (on _ (sym (own .before .alpha-from-colour .ensures) ∙ own .if1 .left) (active .if2 .left), ← own .before .before .textured .ensures)
+    let enabled = bound .before .before in
+    let own = enabled .before .before in
+    rw (on _ (sym (own .before .alpha-from-colour .ensures) ∙ own .if1 .left) (enabled .if2 .left), ← own .before .before .textured .ensures)
     (rw (sym (bound .before .falls-back .ensures) ∙ bound .if3 .left, sym (c .before .is-bump-op .ensures) ∙ c .if4 .taken))
 
 returns-5 : tie.Need-returns-5
 returns-5 c =
     let plain = c .before in
     let bound = plain .before .before in
-    let active = bound .before .before in
-    let own = active .before .before in
-    rw (on _ (sym (own .before .alpha-from-colour .ensures) ∙ own .if1 .left) (active .if2 .left), ← own .before .before .textured .ensures)
+    let enabled = bound .before .before in
+    let own = enabled .before .before in
+    rw (on _ (sym (own .before .alpha-from-colour .ensures) ∙ own .if1 .left) (enabled .if2 .left), ← own .before .before .textured .ensures)
     (rw (sym (bound .before .falls-back .ensures) ∙ bound .if3 .left, sym (plain .before .is-bump-op .ensures) ∙ plain .if4 .left)
     (ap Written (c .combined .ensures)))
 

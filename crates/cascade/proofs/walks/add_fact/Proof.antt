@@ -7,19 +7,19 @@ use Rattle.cascade.proofs.walks.add_fact.Tie as tie
 
 returns : tie.Need-returns
 returns c =
-    let w = c .before in
-    let b = w .before .before in
-    let f = b .before .before in
-    let i = f .before .before in
-    let p = i .before .is-plain .ensures (i .if1 .taken) in
+    let op = c .before in
+    let factor = op .before .before in
+    let mask = factor .before .before in
+    let test = mask .before .before in
+    let p = test .before .is-plain .ensures (test .if1 .taken) in
     rw (
-      f .when .ensures .0,
-      f .before .textured .ensures,
+      mask .when .ensures .0,
+      mask .before .textured .ensures,
       p .constant,
       p .factor,
-      b .blends-by-factor .ensures,
+      factor .blends-by-factor .ensures,
       p .temp,
-      w .warns-op .ensures,
+      op .warns-op .ensures,
       p .selector,
       p .modifier,
       and-false,

@@ -1,3 +1,0 @@
-mod Emitting
-mod Applying
-pub mod Held

@@ -1,0 +1,145 @@
+-- What the calls of yuzuknoll_apply promise, in each case of the code.
+use Prim.Native.Nat.{ℕ, _+_, _≤_}
+use mathlib.Core.Bool.{Bool, true, false, _&&_, cond}
+use mathlib.Core.Path.{_≡_, refl, sym, ap, _∙_}
+use mathlib.Core.List.{List, [], _∷_, _++_}
+use native.Mathlib.Omega.{arith}
+use borrow.Author.Tests.{eqb-true}
+use lib.Dec.{eqb}
+use lib.ListN.{length, take, drop, getD}
+use lib.Seq.{sets, length-take-le}
+use Rattle.text.specs.Text.{raw}
+use Rattle.text.specs.Buffer.{Wrote}
+use Rattle.values.specs.Admitted.{Admitted}
+use Rattle.values.specs.declared.Key.{Key}
+use Rattle.values.specs.declared.Variant.{Variant}
+use Rattle.values.specs.declared.Entry.{Entry}
+use Rattle.values.specs.declared.Refusal.the-variants.{EmitTooEarly}
+use Rattle.wire.specs.Bodies.{kindByte, recordLength, keyFromBody, variantFromBody, entryFromBody}
+use Rattle.wire.specs.Reading.{bodyNumber, recordNumber}
+use Rattle.wire.specs.declared.Kind.{Kind}
+use Rattle.wire.specs.declared.Kind.the-variants as kind
+use Rattle.records.specs.Applying.{holdsAll}
+use Rattle.yuzuknoll.specs.Lent.{after, recordNumbers, NamesHold}
+use Rattle.yuzuknoll.specs.Records.{kindIn}
+use Rattle.yuzuknoll.specs.Applying.{placeOf, heldBody, isHeld, heldOf, onEmit, emitNumber, heldWith, textWith, noResult, resultWith, appliedNumbers, appliedNumber}
+use Rattle.yuzuknoll.proofs.Lent.{not-zero, left, first-refused, first-passed}
+use Rattle.yuzuknoll.proofs.Emitting.{Emits, admitted}
+
+-- five numbers, one by one
+pub five : (l : List ℕ) → length l ≡ 5 → getD l 0 0 ∷ getD l 1 0 ∷ getD l 2 0 ∷ getD l 3 0 ∷ getD l 4 0 ∷ [] ≡ l
+five [] h = absurd (omega arith)
+five (a ∷ []) h = absurd (omega arith)
+five (a ∷ b ∷ []) h = absurd (omega arith)
+five (a ∷ b ∷ c ∷ []) h = absurd (omega arith)
+five (a ∷ b ∷ c ∷ d ∷ []) h = absurd (omega arith)
+five (a ∷ b ∷ c ∷ d ∷ e ∷ []) h = refl
+five (a ∷ b ∷ c ∷ d ∷ e ∷ f ∷ l) h = absurd (omega arith)
+
+both : (a b : Bool) → (a && b) ≡ true → (a ≡ true) × (b ≡ true)
+both true b e = (refl, e)
+both false b e = absurd (let z : _≡_ {A = ℕ} 0 1 = cc in omega arith)
+
+-- a part that is held has a body without a cause
+held-free : (k : Kind) (held : List ℕ) → isHeld k held ≡ true → bodyNumber k (heldBody k held) ≡ 0
+held-free k held e = eqb-true _ _ (both (eqb (getD held (placeOf k) 0) (kindByte k)) _ e .1)
+
+-- values read from bytes that hold all three
+module _ (held : List ℕ) {k : Key} {v : Variant} {e : Entry} (p : k ≡ keyFromBody (heldBody kind.Key held))
+    (q : v ≡ variantFromBody (heldBody kind.Variant held)) (r : e ≡ entryFromBody (heldBody kind.Entry held)) where
+  pub held-admitted : holdsAll (heldOf held) ≡ true → Admitted k v e
+  unfolding heldOf
+  held-admitted t =
+      let s = both (isHeld kind.Key held) (isHeld kind.Variant held && isHeld kind.Entry held) t in
+      let u = both (isHeld kind.Variant held) (isHeld kind.Entry held) (s .1) in
+      rw (p, q, r)
+      (admitted (heldBody kind.Key held) (heldBody kind.Variant held) (heldBody kind.Entry held)
+      (held-free kind.Key held (s .0)) (held-free kind.Variant held (u .0)) (held-free kind.Entry held (u .1)))
+
+-- Emission from held bytes: its number, the text and the result that it leaves.
+module _ (held out res : List ℕ) where
+  abbrev pub HeldEmits : ℕ → List ℕ → List ℕ → Type 0
+  HeldEmits n out′ res′ =
+      (n ≡ emitNumber kind.Emit (heldOf held) (length out))
+      × ((out′ ≡ after n (textWith kind.Emit (heldOf held) out) out)
+      × ((res′ ≡ after n (resultWith kind.Emit (heldOf held)) res) × (n ≡ 0 → NamesHold (heldOf held .key) out′ res′)))
+
+  module _ {all : Bool} (e : all ≡ holdsAll (heldOf held)) where
+    pub too-early : {n : ℕ} → all ≡ false → n ≡ 7 → HeldEmits n out res
+    unfolding emitNumber
+    too-early {n} f q =
+        let h : n ≡ 0 → ⊥ = λ z. not-zero EmitTooEarly (sym q ∙ z) in
+        (rw (sym e ∙ f) q, (left _ out h, (left _ res h, λ z. absurd (h z))))
+
+    pub held-emitted : {n : ℕ} {out′ res′ : List ℕ} {k : Key} {v : Variant} {x : Entry} → all ≡ true → k ≡ keyFromBody (heldBody kind.Key held) →
+        v ≡ variantFromBody (heldBody kind.Variant held) → x ≡ entryFromBody (heldBody kind.Entry held) → Emits k v x out res n out′ res′ →
+        HeldEmits n out′ res′
+    unfolding heldOf emitNumber textWith resultWith
+    held-emitted t p q r s = let y = rw (p, q, r) at s in (rw (sym e ∙ t) (y .0), y .1)
+
+-- a record laid over its part
+pub laid : (k : Kind) (held b : List ℕ) {n at at′ : ℕ} {held′ : List ℕ} → n ≡ recordLength k → at ≡ placeOf k → placeOf k + recordLength k ≤ length held →
+    recordLength k ≤ length b → Wrote held at held′ at′ (raw (take n b)) → held′ ≡ sets held (placeOf k) (take (recordLength k) b)
+laid k held b e f g h w = let u = rw (e, f) at w in u .fits (omega (arith, length-take-le (recordLength k) b h)) .0
+
+-- An emit record: its number, the text and the numbers that it leaves.
+module _ (held out apd : List ℕ) where
+  abbrev pub EmitApplied : ℕ → List ℕ → List ℕ → Type 0
+  EmitApplied n out′ apd′ =
+      (n ≡ emitNumber kind.Emit (heldOf held) (length out))
+      × ((out′ ≡ after n (textWith kind.Emit (heldOf held) out) out)
+      × ((apd′ ≡ after n (appliedNumbers kind.Emit (heldOf held)) apd) × (n ≡ 0 → NamesHold (heldOf held .key) out′ (drop 2 apd′))))
+
+  module _ (res : List ℕ) {n : ℕ} {out′ res′ : List ℕ} (s : HeldEmits held out res n out′ res′) where
+    pub emit-refused : (n ≡ 0 → ⊥) → EmitApplied n out′ apd
+    emit-refused h = (s .0, (s .1 .0, (left _ apd h, λ z. absurd (h z))))
+
+    pub emit-applied : {apd′ : List ℕ} → n ≡ 0 → apd′ ≡ recordNumbers kind.Emit ++ res′ → EmitApplied 0 out′ apd′
+    emit-applied z q =
+        let y = rw z at s in
+        (y .0, (y .1 .0, (q ∙ ap (λ (l : List ℕ). recordNumbers kind.Emit ++ l) (y .1 .1 .0), λ _. rw q (y .1 .1 .1 refl))))
+
+-- a record that is no emit record, and one that leaves held bytes as they are
+abbrev isEmit : Kind → ℕ
+isEmit k = onEmit k 1 0
+
+other : {A : Type 0} (k : Kind) → isEmit k ≡ 0 → (x y : A) → onEmit k x y ≡ y
+other kind.Key v x y = refl
+other kind.Variant v x y = refl
+other kind.Entry v x y = refl
+other kind.Emit v x y = absurd (omega arith)
+
+either-way : (t : Bool) (l : List ℕ) → l ≡ cond t l l
+either-way true l = refl
+either-way false l = refl
+
+-- yuzuknoll_apply: its number, and the held bytes, the text and the numbers that it leaves
+module _ (held b out apd : List ℕ) where
+  abbrev Applies : ℕ → List ℕ → List ℕ → List ℕ → Type 0
+  Applies n held′ out′ apd′ =
+      (n ≡ appliedNumber b (heldOf held) (length out))
+      × ((held′ ≡ after n (heldWith (kindIn b) b held) held)
+      × ((out′ ≡ after n (textWith (kindIn b) (heldOf held) out) out)
+      × ((apd′ ≡ after n (appliedNumbers (kindIn b) (heldOf held)) apd)
+      × (n ≡ 0 → kindIn b ≡ kind.Emit → NamesHold (heldOf held .key) out′ (drop 2 apd′)))))
+
+  pub apply-refused : {n : ℕ} → n ≡ recordNumber b → (n ≡ 0 → ⊥) → Applies n held out apd
+  apply-refused q h = (first-refused _ q h, (left _ held h, (left _ out h, (left _ apd h, λ z. absurd (h z)))))
+
+  module _ (z : recordNumber b ≡ 0) {k : Kind} (g : k ≡ kindIn b) where
+    -- what is left of it behind the reader's number
+    by-kind : {n : ℕ} {held′ out′ apd′ : List ℕ} → n ≡ emitNumber k (heldOf held) (length out) → held′ ≡ after n (heldWith k b held) held →
+        out′ ≡ after n (textWith k (heldOf held) out) out → apd′ ≡ after n (appliedNumbers k (heldOf held)) apd →
+        (n ≡ 0 → k ≡ kind.Emit → NamesHold (heldOf held .key) out′ (drop 2 apd′)) → Applies n held′ out′ apd′
+    by-kind p q r s t = (first-passed refl z (rw (← g) p), (rw (← g) q, (rw (← g) r, (rw (← g) s, rw (← g) t))))
+
+    pub apply-emitted : {n : ℕ} {out′ apd′ : List ℕ} → k ≡ kind.Emit → EmitApplied held out apd n out′ apd′ → Applies n held out′ apd′
+    unfolding heldWith
+    apply-emitted {n} f s = by-kind (rw f (s .0)) (rw f (either-way (eqb n 0) held)) (rw f (s .1 .0)) (rw f (s .1 .1 .0)) (λ e _. s .1 .1 .1 e)
+
+    pub apply-kept : {n : ℕ} {held′ apd′ : List ℕ} → isEmit k ≡ 0 → n ≡ 0 → held′ ≡ sets held (placeOf k) (take (recordLength k) b) →
+        apd′ ≡ recordNumbers k ++ noResult → Applies n held′ out apd′
+    unfolding emitNumber heldWith textWith resultWith
+    apply-kept v e p q =
+        by-kind (rw (other k v) e) (rw (e, other k v) p) (rw (e, other k v)) (rw (e, other k v) q)
+        (λ _ f. absurd (let w = rw f at v in omega arith))

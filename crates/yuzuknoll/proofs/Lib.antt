@@ -1,0 +1,5 @@
+mod Lent
+mod Checking
+mod Emitting
+pub mod Records
+mod Applying

@@ -1,0 +1,23 @@
+-- The test is the one that the entry's number goes by.
+use mathlib.Core.Path.{sym, _∙_}
+use borrow.Author.Tests.{not-true, not-false}
+use Rattle.wire.specs.Reading.{bodyNumber}
+use borrow.Author.Needs.{needs}
+use Rattle.yuzuknoll.proofs.check.entry_number.Statement.{statement}
+use Rattle.yuzuknoll.proofs.check.entry_number.Tie as tie
+
+returns : tie.Need-returns
+unfolding bodyNumber
+returns c =
+    let s1 = c .before in
+    let good = s1 .before in
+    rw (← good .before .entry-from-body .ensures, sym (good .entry-good .ensures) ∙ not-true _ (s1 .if1 .taken)) (c .refuse .ensures)
+
+returns-2 : tie.Need-returns-2
+unfolding bodyNumber
+returns-2 c =
+    let good = c .before in
+    rw (← good .before .entry-from-body .ensures, sym (good .entry-good .ensures) ∙ not-false _ (c .if1 .left))
+
+pub entry-number-spec : {M : Type 1} → statement M
+entry-number-spec = tie.close (tie.spec (λ c κs. search needs) (λ c κs. tt) (λ c κs. tt) returns returns-2)

@@ -1,0 +1,80 @@
+-- The held key, variant and entry as bytes, and the record at the front of some bytes applied to them: what yuzuknoll_apply answers, holds, writes and
+-- reports.
+use Prim.Native.Nat.{ℕ, _+_}
+use mathlib.Core.Bool.{Bool, _&&_, cond}
+use mathlib.Core.List.{List, [], _∷_, _++_}
+use lib.Dec.{eqb}
+use lib.ListN.{take, drop, getD}
+use lib.Seq.{sets}
+use Rattle.shader.specs.Results.{emittedOf, textOf, emissionNumber}
+use Rattle.wire.specs.Bodies.{kindByte, bodyLength, recordLength, keyFromBody, variantFromBody, entryFromBody}
+use Rattle.wire.specs.Reading.{bodyNumber, recordNumber}
+use Rattle.wire.specs.declared.Kind.{Kind}
+use Rattle.wire.specs.declared.Kind.the-variants as kind
+use Rattle.records.specs.Applying.{holdsAll}
+use Rattle.records.specs.declared.Held.{Held}
+use Rattle.yuzuknoll.specs.Lent.{firstOf, atFront, recordNumbers, resultNumbers}
+use Rattle.yuzuknoll.specs.Records.{kindIn}
+
+-- What is held.
+
+-- The records of a key, a variant and an entry stand one behind another, in 59, 20 and 34 bytes: where each begins, and its body.
+abbrev pub placeOf : Kind → ℕ
+placeOf kind.Key = 0
+placeOf kind.Variant = 59
+placeOf kind.Entry = 79
+placeOf kind.Emit = 113
+
+abbrev pub heldBody : Kind → List ℕ → List ℕ
+heldBody k held = take (bodyLength k) (drop (placeOf k + 1) held)
+
+-- A part that is no good record of its kind counts as not held. So zeros hold nothing.
+abbrev pub isHeld : Kind → List ℕ → Bool
+isHeld k held = eqb (getD held (placeOf k) 0) (kindByte k) && eqb (bodyNumber k (heldBody k held)) 0
+
+-- the values that held bytes stand for
+unfoldable pub heldOf : List ℕ → Held
+heldOf held =
+    record {
+      «has_key» = isHeld kind.Key held;
+      key = keyFromBody (heldBody kind.Key held);
+      «has_variant» = isHeld kind.Variant held;
+      variant = variantFromBody (heldBody kind.Variant held);
+      «has_entry» = isHeld kind.Entry held;
+      entry = entryFromBody (heldBody kind.Entry held);
+    }
+
+-- A record of a kind, applied.
+
+-- what an emit record does, or what every other record does
+abbrev pub onEmit : {A : Type 0} → Kind → A → A → A
+onEmit kind.Key emits holds = holds
+onEmit kind.Variant emits holds = holds
+onEmit kind.Entry emits holds = holds
+onEmit kind.Emit emits holds = emits
+
+-- 7: "emit before key, variant and entry", then emission's number. room is the length of the buffer for the text.
+unfoldable pub emitNumber : Kind → Held → ℕ → ℕ
+emitNumber k h room = onEmit k (cond (holdsAll h) (emissionNumber (h .key) (h .variant) (h .entry) room) 7) 0
+
+-- the record stands over its part of the held bytes
+unfoldable pub heldWith : Kind → List ℕ → List ℕ → List ℕ
+heldWith k b held = onEmit k held (sets held (placeOf k) (take (recordLength k) b))
+
+-- the text of the held values begins the buffer
+unfoldable pub textWith : Kind → Held → List ℕ → List ℕ
+textWith k h out = onEmit k (atFront (textOf (h .key) (h .variant) (h .entry)) out) out
+
+-- the text's result, 0 in its place where there is none
+abbrev pub noResult : List ℕ
+noResult = 0 ∷ 0 ∷ 0 ∷ 0 ∷ 0 ∷ []
+
+unfoldable pub resultWith : Kind → Held → List ℕ
+resultWith k h = onEmit k (resultNumbers (emittedOf (h .key) (h .variant) (h .entry))) noResult
+
+abbrev pub appliedNumbers : Kind → Held → List ℕ
+appliedNumbers k h = recordNumbers k ++ resultWith k h
+
+-- The number of the record at the front of b: the reader's, then that of an emit record.
+abbrev pub appliedNumber : List ℕ → Held → ℕ → ℕ
+appliedNumber b h room = firstOf (recordNumber b) (emitNumber (kindIn b) h room)

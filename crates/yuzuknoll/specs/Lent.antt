@@ -1,0 +1,40 @@
+-- What a call leaves in the bytes and numbers that it is lent, and the numbers that it reports.
+use Prim.Native.Nat.{ℕ}
+use mathlib.Core.Bool.{cond}
+use mathlib.Core.List.{List, [], _∷_, _++_}
+use lib.Dec.{eqb}
+use lib.ListN.{length, take, drop, getD}
+use Rattle.values.specs.declared.Key.{Key}
+use Rattle.values.specs.declared.Emitted.{Emitted}
+use Rattle.shader.specs.Demand.{Demand3}
+use Rattle.wire.specs.Bodies.{kindByte, recordLength}
+use Rattle.wire.specs.declared.Kind.{Kind}
+
+-- A call that answers 0 has written. One that answers a refusal's number has left "every lent byte" as it was before the call.
+abbrev pub after : ℕ → List ℕ → List ℕ → List ℕ
+after number written before = cond (eqb number 0) written before
+
+-- the first of two numbers that is not 0
+abbrev pub firstOf : ℕ → ℕ → ℕ
+firstOf a b = cond (eqb a 0) b a
+
+-- bytes that begin a buffer; those behind them stay
+abbrev pub atFront : List ℕ → List ℕ → List ℕ
+atFront bytes out = bytes ++ drop (length bytes) out
+
+-- a record's kind, and how many bytes it has
+abbrev pub recordNumbers : Kind → List ℕ
+recordNumbers k = kindByte k ∷ recordLength k ∷ []
+
+-- length, mask, rows, lookups and warning
+abbrev pub resultNumbers : Emitted → List ℕ
+resultNumbers m = m .length ∷ m .mask ∷ m .rows ∷ m .lookups ∷ m .warning ∷ []
+
+-- the result that five numbers report
+abbrev pub resultOf : List ℕ → Emitted
+resultOf l =
+    record { length = getD l 0 0; mask = getD l 1 0; rows = getD l 2 0; lookups = getD l 3 0; warning = getD l 4 0 }
+
+-- demand 3 of a key, of the buffer that holds the text, and of the five numbers
+abbrev pub NamesHold : Key → List ℕ → List ℕ → Type 0
+NamesHold key out l = Demand3 key (take (getD l 0 0) out) (resultOf l)

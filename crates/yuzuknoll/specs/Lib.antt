@@ -1,0 +1,4 @@
+pub mod Lent
+pub mod Emitting
+pub mod Records
+pub mod Applying

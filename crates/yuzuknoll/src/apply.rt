@@ -1,0 +1,146 @@
+//! The record at the front of some bytes, applied to the held key, variant and entry, which the caller keeps as the bytes of their records.
+use crate::ACCEPTED;
+use crate::check::kind_number;
+use crate::check::record_number;
+use crate::emit::emit_values;
+use crate::read::kind_in;
+use crate::refuse;
+use text::put;
+use values::Refusal;
+use wire::Kind;
+use wire::kind_byte;
+use wire::reader::entry_from_body;
+use wire::reader::key_from_body;
+use wire::reader::variant_from_body;
+use wire::record_length;
+ghost use Prim.Native.Nat.{_+_, _≤_};
+ghost use mathlib.Core.Path.{_≡_};
+ghost use mathlib.Core.Bool.{_&&_};
+ghost use mathlib.Core.List.{_++_};
+ghost use lib.Dec.{eqb};
+ghost use lib.ListN.{drop, length, take};
+ghost use lib.Seq.{sets};
+ghost use Rattle.records.specs.Applying.{holdsAll};
+ghost use Rattle.wire.specs.Bodies.{bodyLength, kindByte, recordLength};
+ghost use Rattle.wire.specs.Reading.{bodyNumber};
+ghost use Rattle.yuzuknoll.specs.Lent.{NamesHold, after, recordNumbers};
+ghost use Rattle.yuzuknoll.specs.Records.{kindIn};
+ghost use Rattle.yuzuknoll.specs.Applying.{appliedNumber, appliedNumbers, emitNumber, heldOf, heldWith, noResult, placeOf, resultWith, textWith};
+
+// Where the record of a kind begins in the held bytes.
+fn place_of(kind: Kind) -> usize
+    ensures { λ r. ⌜ r ≡ placeOf kind ⌝ }
+{
+    match kind {
+        Kind::Key => 0,
+        Kind::Variant => 59,
+        Kind::Entry => 79,
+        Kind::Emit => 113,
+    }
+}
+
+// Whether a part of the held bytes, a kind byte and a body, is a good record of its kind.
+fn part_held(kind: Kind, byte: u8, body: &[u8]) -> bool
+    requires { ⌜ bodyLength kind ≤ length (now body) ⌝ }
+    ensures { λ r. ⌜ r ≡ (eqb byte (kindByte kind) && eqb (bodyNumber kind (now (body .entry))) 0) ⌝ }
+{
+    (byte == kind_byte(kind)) & (kind_number(kind, body) == ACCEPTED)
+}
+
+fn holds_all(held: &[u8]) -> bool
+    requires { ⌜ length (now held) ≡ 113 ⌝ }
+    ensures { λ r. ⌜ r ≡ holdsAll (heldOf (now (held .entry))) ⌝ }
+{
+    let key = part_held(Kind::Key, held[0], &held[1..59]);
+    let variant = part_held(Kind::Variant, held[59], &held[60..79]);
+    let entry = part_held(Kind::Entry, held[79], &held[80..113]);
+    key & (variant & entry)
+}
+
+// Emission from the held values.
+fn emit_held(held: &[u8], text: &mut [u8], result: &mut [u64; 5]) -> u64
+    requires { ⌜ length (now held) ≡ 113 ⌝ }
+    ensures number { λ r. ⌜ r ≡ emitNumber Kind.Emit (heldOf (now (held .entry))) (length (now (text .entry))) ⌝ }
+    ensures text { λ r. ⌜ now (text .exit) ≡ after r (textWith Kind.Emit (heldOf (now (held .entry))) (now (text .entry))) (now (text .entry)) ⌝ }
+    ensures result { λ r. ⌜ now (result .exit) ≡ after r (resultWith Kind.Emit (heldOf (now (held .entry)))) (now (result .entry)) ⌝ }
+    ensures names { λ r. ⌜ (r ≡ 0 → NamesHold (heldOf (now (held .entry)) .key) (now (text .exit)) (now (result .exit))) ⌝ }
+{
+    if !holds_all(held) {
+        return refuse(Refusal::EmitTooEarly);
+    }
+    let key = key_from_body(&held[1..59]);
+    let variant = variant_from_body(&held[60..79]);
+    let entry = entry_from_body(&held[80..113]);
+    emit_values(key, variant, entry, text, result)
+}
+
+fn report_applied(kind: Kind, result: [u64; 5], applied: &mut [u64; 7])
+    ensures { λ _. ⌜ now (applied .exit) ≡ recordNumbers kind ++ result ⌝ }
+{
+    *applied = [
+        kind_byte(kind) as u64,
+        record_length(kind) as u64,
+        result[0],
+        result[1],
+        result[2],
+        result[3],
+        result[4],
+    ];
+}
+
+// A value's record, over its part of the held bytes.
+fn keep_record(kind: Kind, bytes: &[u8], held: &mut [u8], applied: &mut [u64; 7]) -> u64
+    requires { ⌜ (placeOf kind + recordLength kind ≤ length (now held)) × (recordLength kind ≤ length (now bytes)) ⌝ }
+    ensures number { λ r. ⌜ r ≡ 0 ⌝ }
+    ensures held { λ _. ⌜ now (held .exit) ≡ sets (now (held .entry)) (placeOf kind) (take (recordLength kind) (now (bytes .entry))) ⌝ }
+    ensures applied { λ _. ⌜ now (applied .exit) ≡ recordNumbers kind ++ noResult ⌝ }
+{
+    let n = record_length(kind);
+    put(held, place_of(kind), &bytes[..n]);
+    report_applied(kind, [0u64; 5], applied);
+    ACCEPTED
+}
+
+// An emit record.
+fn emit_record(held: &[u8], text: &mut [u8], applied: &mut [u64; 7]) -> u64
+    requires { ⌜ length (now held) ≡ 113 ⌝ }
+    ensures number { λ r. ⌜ r ≡ emitNumber Kind.Emit (heldOf (now (held .entry))) (length (now (text .entry))) ⌝ }
+    ensures text { λ r. ⌜ now (text .exit) ≡ after r (textWith Kind.Emit (heldOf (now (held .entry))) (now (text .entry))) (now (text .entry)) ⌝ }
+    ensures applied { λ r. ⌜ now (applied .exit) ≡ after r (appliedNumbers Kind.Emit (heldOf (now (held .entry)))) (now (applied .entry)) ⌝ }
+    ensures names { λ r. ⌜ (r ≡ 0 → NamesHold (heldOf (now (held .entry)) .key) (now (text .exit)) (drop 2 (now (applied .exit)))) ⌝ }
+{
+    let mut result = [0u64; 5];
+    let number = emit_held(held, text, &mut result);
+    if number != ACCEPTED {
+        return number;
+    }
+    report_applied(Kind::Emit, result, applied);
+    ACCEPTED
+}
+
+// Applies the record at the front of bytes: it is held, or writes the text of what is held to the front of text. Reports its kind and length, and
+// the text's length, mask, rows, lookups and warning, which are 0 for a record that is held.
+#[no_mangle]
+pub extern "C" fn yuzuknoll_apply(
+    held: &mut [u8; 113],
+    bytes: &[u8],
+    text: &mut [u8],
+    applied: &mut [u64; 7],
+) -> u64
+    ensures number { λ r. ⌜ r ≡ appliedNumber (now (bytes .entry)) (heldOf (now (held .entry))) (length (now (text .entry))) ⌝ }
+    ensures held { λ r. ⌜ now (held .exit) ≡ after r (heldWith (kindIn (now (bytes .entry))) (now (bytes .entry)) (now (held .entry))) (now (held .entry)) ⌝ }
+    ensures text { λ r. ⌜ now (text .exit) ≡ after r (textWith (kindIn (now (bytes .entry))) (heldOf (now (held .entry))) (now (text .entry))) (now (text .entry)) ⌝ }
+    ensures applied { λ r. ⌜ now (applied .exit) ≡ after r (appliedNumbers (kindIn (now (bytes .entry))) (heldOf (now (held .entry)))) (now (applied .entry)) ⌝ }
+    ensures names { λ r. ⌜ (r ≡ 0 → kindIn (now (bytes .entry)) ≡ Kind.Emit → NamesHold (heldOf (now (held .entry)) .key) (now (text .exit)) (drop 2 (now (applied .exit)))) ⌝ }
+{
+    let number = record_number(bytes);
+    if number != ACCEPTED {
+        return number;
+    }
+    match kind_in(bytes) {
+        Kind::Key => keep_record(Kind::Key, bytes, held, applied),
+        Kind::Variant => keep_record(Kind::Variant, bytes, held, applied),
+        Kind::Entry => keep_record(Kind::Entry, bytes, held, applied),
+        Kind::Emit => emit_record(held, text, applied),
+    }
+}

@@ -1,0 +1,103 @@
+//! The causes 1 to 6 of a record, found on its bytes: no value is made of them.
+use crate::ACCEPTED;
+use crate::refuse;
+use admission::entry_good;
+use values::Refusal;
+use wire::KIND_EMIT;
+use wire::KIND_ENTRY;
+use wire::KIND_KEY;
+use wire::KIND_VARIANT;
+use wire::Kind;
+use wire::body_length;
+use wire::reader::entry_from_body;
+ghost use Prim.Native.Nat.{_≤_};
+ghost use mathlib.Core.Path.{_≡_};
+ghost use mathlib.Core.Bool.{cond};
+ghost use lib.Dec.{ltb};
+ghost use lib.ListN.{length};
+ghost use Rattle.values.specs.Flags.{stageFlagsBad};
+ghost use Rattle.wire.specs.Bodies.{bodyLength, keyFromBody};
+ghost use Rattle.wire.specs.Reading.{bodyNumber, byKind, recordNumber};
+
+// The flags of a stage are the last of its seven bytes.
+fn key_flags_bad(body: &[u8]) -> bool
+    requires { ⌜ bodyLength Kind.Key ≤ length (now body) ⌝ }
+    ensures { λ r. ⌜ r ≡ stageFlagsBad (keyFromBody (now (body .entry)) .stages) ⌝ }
+{
+    (4 <= body[6])
+        | ((4 <= body[13])
+            | ((4 <= body[20])
+                | ((4 <= body[27])
+                    | ((4 <= body[34]) | ((4 <= body[41]) | ((4 <= body[48]) | (4 <= body[55])))))))
+}
+
+pub(crate) fn key_number(body: &[u8]) -> u64
+    requires { ⌜ bodyLength Kind.Key ≤ length (now body) ⌝ }
+    ensures { λ r. ⌜ r ≡ bodyNumber Kind.Key (now (body .entry)) ⌝ }
+{
+    if key_flags_bad(body) {
+        return refuse(Refusal::StageFlags);
+    }
+    if 1 < body[56] {
+        return refuse(Refusal::SpecularAdd);
+    }
+    ACCEPTED
+}
+
+pub(crate) fn variant_number(body: &[u8]) -> u64
+    requires { ⌜ bodyLength Kind.Variant ≤ length (now body) ⌝ }
+    ensures { λ r. ⌜ r ≡ bodyNumber Kind.Variant (now (body .entry)) ⌝ }
+{
+    if 64 <= body[18] {
+        return refuse(Refusal::VariantFlags);
+    }
+    ACCEPTED
+}
+
+pub(crate) fn entry_number(body: &[u8]) -> u64
+    requires { ⌜ bodyLength Kind.Entry ≤ length (now body) ⌝ }
+    ensures { λ r. ⌜ r ≡ bodyNumber Kind.Entry (now (body .entry)) ⌝ }
+{
+    if !entry_good(entry_from_body(body)) {
+        return refuse(Refusal::EntryName);
+    }
+    ACCEPTED
+}
+
+// Of the body of a kind at the front of some bytes.
+pub(crate) fn kind_number(kind: Kind, body: &[u8]) -> u64
+    ensures { λ r. ⌜ r ≡ cond (ltb (length (now (body .entry))) (bodyLength kind)) 1 (bodyNumber kind (now (body .entry))) ⌝ }
+{
+    if body.len() < body_length(kind) {
+        return refuse(Refusal::CutShort);
+    }
+    match kind {
+        Kind::Key => key_number(body),
+        Kind::Variant => variant_number(body),
+        Kind::Entry => entry_number(body),
+        Kind::Emit => ACCEPTED,
+    }
+}
+
+// Of what stands behind a kind byte.
+fn byte_number(byte: u8, body: &[u8]) -> u64
+    ensures { λ r. ⌜ r ≡ byKind byte (λ k. cond (ltb (length (now (body .entry))) (bodyLength k)) 1 (bodyNumber k (now (body .entry)))) 2 ⌝ }
+{
+    match byte {
+        KIND_KEY => kind_number(Kind::Key, body),
+        KIND_VARIANT => kind_number(Kind::Variant, body),
+        KIND_ENTRY => kind_number(Kind::Entry, body),
+        KIND_EMIT => kind_number(Kind::Emit, body),
+        _ => refuse(Refusal::UnknownKind),
+    }
+}
+
+// Of the record at the front of some bytes.
+pub(crate) fn record_number(bytes: &[u8]) -> u64
+    ensures { λ r. ⌜ r ≡ recordNumber (now (bytes .entry)) ⌝ }
+{
+    if 0 < bytes.len() {
+        return byte_number(bytes[0], &bytes[1..]);
+    }
+    refuse(Refusal::CutShort)
+}
