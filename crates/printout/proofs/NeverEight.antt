@@ -2,11 +2,11 @@
 use mathlib.Core.Path.{_≡_, refl, sym, ap, subst, _∙_}
 use mathlib.Core.Bool.{Bool, true, false, cond}
 use mathlib.Core.List.{List, [], _∷_, _++_, append-assoc}
-use Prim.Native.Nat.{ℕ, zero, suc, _+_, _/_, _%_, _≤_}
+use Prim.Native.Nat.{ℕ, zero, suc, _+_, _/_, _%_}
+use Prim.Native.Char.{code}
 use native.Mathlib.Omega.{arith}
-use borrow.Author.Tests.{ltb-true}
 use lib.Dec.{eqb, ltb}
-use lib.ListN.{length, drop, length-append}
+use lib.ListN.{length, drop, getD, length-append}
 use lib.Seq.{drop-at}
 use Rattle.text.specs.Text.{bytes, flat, decimal, decimalOf}
 use Rattle.values.specs.Refusals.{numberOf}
@@ -56,9 +56,15 @@ ends input =
     (from-ends (length input) 0 0 nothingHeld input nothing-held-eight)
 
 -- The same of the printed bytes. A line's words are found from its end, since no word has a space in it.
+abbrev space : ℕ
+space = code " "
+
+abbrev newline : ℕ
+newline = code "\n"
+
 abbrev Word : List ℕ → Type 0
 Word [] = Unit {0}
-Word (x ∷ l) = (x ≡ 32 → ⊥) × Word l
+Word (x ∷ l) = (x ≡ space → ⊥) × Word l
 
 word-append : (x y : List ℕ) → Word x → Word y → Word (x ++ y)
 word-append [] y p q = q
@@ -67,24 +73,24 @@ word-append (a ∷ x) y p q = (p .0, word-append x y (p .1) q)
 digits-word : (d n : ℕ) → Word (flat (decimalOf d n))
 unfolding decimalOf
 digits-word zero n = tt
-digits-word (suc d) n = go (ltb n 10)
+digits-word (suc d) n = go (ltb n 10) (digits-word d (n / 10))
   where
-    go : (t : Bool) → Word (cond t ((48 + n) ∷ []) (flat (decimalOf d (n / 10)) ++ ((48 + n % 10) ∷ [])))
-    go true = ((λ e. omega arith), tt)
-    go false = word-append (flat (decimalOf d (n / 10))) _ (digits-word d (n / 10)) ((λ e. omega arith), tt)
+    go : (t : Bool) → Word (flat (decimalOf d (n / 10))) → Word (cond t ((48 + n) ∷ []) (flat (decimalOf d (n / 10)) ++ ((48 + n % 10) ∷ [])))
+    go true w = ((λ e. omega arith), tt)
+    go false w = word-append (flat (decimalOf d (n / 10))) _ w ((λ e. omega arith), tt)
 
-no-space : (w x v : List ℕ) → Word w → w ≡ x ++ (32 ∷ v) → ⊥
+no-space : (w x v : List ℕ) → Word w → w ≡ x ++ (space ∷ v) → ⊥
 no-space [] [] v p e = let z : _≡_ {A = ℕ} 0 1 = cc in omega arith
 no-space [] (b ∷ x) v p e = let z : _≡_ {A = ℕ} 0 1 = cc in omega arith
 no-space (a ∷ w) [] v p e = p .0 cc
 no-space (a ∷ w) (b ∷ x) v p e = no-space w x v (p .1) cc
 
-last-word : (x y w v : List ℕ) → Word w → Word v → x ++ (32 ∷ w) ≡ y ++ (32 ∷ v) → (x ≡ y) × (w ≡ v)
+last-word : (x y w v : List ℕ) → Word w → Word v → x ++ (space ∷ w) ≡ y ++ (space ∷ v) → (x ≡ y) × (w ≡ v)
 last-word [] [] w v p q e = (refl, cc)
 last-word [] (b ∷ y) w v p q e = absurd (no-space w y v p cc)
-last-word (a ∷ x) [] w v p q e = absurd (no-space v x w q (let f : x ++ (32 ∷ w) ≡ v = cc in sym f))
+last-word (a ∷ x) [] w v p q e = absurd (no-space v x w q (let f : x ++ (space ∷ w) ≡ v = cc in sym f))
 last-word (a ∷ x) (b ∷ y) w v p q e =
-    let f : x ++ (32 ∷ w) ≡ y ++ (32 ∷ v) = cc in
+    let f : x ++ (space ∷ w) ≡ y ++ (space ∷ v) = cc in
     let r = last-word x y w v p q f in
     (cc, r .1)
 
@@ -95,43 +101,61 @@ same-end x z u v l e =
 
 -- a line's number and its end
 abbrev numberThenEnd : ℕ → List ℕ
-numberThenEnd n = flat (decimal n) ++ (10 ∷ [])
+numberThenEnd n = flat (decimal n) ++ (newline ∷ [])
 
 number-word : (n : ℕ) → Word (numberThenEnd n)
-number-word n = word-append (flat (decimal n)) (10 ∷ []) (digits-word 20 n) ((λ e. omega arith), tt)
+number-word n = word-append (flat (decimal n)) (newline ∷ []) (digits-word 20 n) ((λ e. omega arith), tt)
 
-end-words : (x : List ℕ) (n : ℕ) → x ++ endLine n ≡ (x ++ bytes "end") ++ (32 ∷ numberThenEnd n)
+at-word : Word (bytes "at")
+at-word = ((λ e. omega arith), ((λ e. omega arith), tt))
+
+end-words : (x : List ℕ) (n : ℕ) → x ++ endLine n ≡ (x ++ bytes "end") ++ (space ∷ numberThenEnd n)
 unfolding endLine
-end-words x n = sym (append-assoc x (bytes "end") (32 ∷ numberThenEnd n))
+end-words x n = sym (append-assoc x (bytes "end") (space ∷ numberThenEnd n))
 
-refused-words : (x : List ℕ) (c : Refusal) (p : ℕ) → x ++ refusedLine c p
-    ≡ (((x ++ bytes "refused") ++ (32 ∷ flat (decimal (numberOf c)))) ++ (32 ∷ bytes "at")) ++ (32 ∷ numberThenEnd p)
+-- a refused line without its last two words
+abbrev numbered : List ℕ → Refusal → List ℕ
+numbered x c = (x ++ bytes "refused") ++ (space ∷ flat (decimal (numberOf c)))
+
+refused-words : (x : List ℕ) (c : Refusal) (p : ℕ) → x ++ refusedLine c p ≡ (numbered x c ++ (space ∷ bytes "at")) ++ (space ∷ numberThenEnd p)
 unfolding refusedLine
-refused-words x c p = simp append-assoc
+refused-words x c p =
+    let number = flat (decimal (numberOf c)) in
+    let end : List ℕ = space ∷ numberThenEnd p in
+    sym (append-assoc x (bytes "refused") (space ∷ (number ++ ((space ∷ bytes "at") ++ end))))
+    ∙ sym (append-assoc (x ++ bytes "refused") (space ∷ number) ((space ∷ bytes "at") ++ end))
+    ∙ sym (append-assoc (numbered x c) (space ∷ bytes "at") end)
 
 -- the digits of another number
+abbrev firstByte : List ℕ → ℕ
+firstByte l = getD l 0 0
+
 other : (c : Refusal) → (numberOf c ≡ 8 → ⊥) → flat (decimal (numberOf c)) ≡ flat (decimal 8) → ⊥
 unfolding decimalOf
-other refusal.CutShort f e = let z : _≡_ {A = ℕ} 0 1 = cc in omega arith
-other refusal.UnknownKind f e = let z : _≡_ {A = ℕ} 0 1 = cc in omega arith
-other refusal.StageFlags f e = let z : _≡_ {A = ℕ} 0 1 = cc in omega arith
-other refusal.SpecularAdd f e = let z : _≡_ {A = ℕ} 0 1 = cc in omega arith
-other refusal.VariantFlags f e = let z : _≡_ {A = ℕ} 0 1 = cc in omega arith
-other refusal.EntryName f e = let z : _≡_ {A = ℕ} 0 1 = cc in omega arith
-other refusal.EmitTooEarly f e = let z : _≡_ {A = ℕ} 0 1 = cc in omega arith
+other refusal.CutShort f e = omega (arith, ap firstByte e)
+other refusal.UnknownKind f e = omega (arith, ap firstByte e)
+other refusal.StageFlags f e = omega (arith, ap firstByte e)
+other refusal.SpecularAdd f e = omega (arith, ap firstByte e)
+other refusal.VariantFlags f e = omega (arith, ap firstByte e)
+other refusal.EntryName f e = omega (arith, ap firstByte e)
+other refusal.EmitTooEarly f e = omega (arith, ap firstByte e)
 other refusal.NoRoom f e = f refl
-other refusal.InputTooLong f e = let z : _≡_ {A = ℕ} 0 1 = cc in omega arith
+other refusal.InputTooLong f e = omega (arith, ap firstByte e)
 
 not-eight : {out : List ℕ} → Ends out → (y : List ℕ) (q : ℕ) → out ≡ y ++ refusedLine refusal.NoRoom q → ⊥
 not-eight (ended x n) y q e =
-    let w = last-word _ _ _ _ (number-word n) (number-word q) (sym (end-words x n) ∙ e ∙ refused-words y refusal.NoRoom q) in
-    let l = same-end x _ (bytes "end") (32 ∷ bytes "at") refl (w .0) in
-    let z : _≡_ {A = ℕ} 0 1 = cc in
-    omega arith
+    let w =
+    last-word (x ++ bytes "end") (numbered y refusal.NoRoom ++ (space ∷ bytes "at")) _ _ (number-word n) (number-word q)
+    (sym (end-words x n) ∙ e ∙ refused-words y refusal.NoRoom q)
+    in
+    omega (arith, ap firstByte (same-end x (numbered y refusal.NoRoom) (bytes "end") (space ∷ bytes "at") refl (w .0)))
 not-eight (refused x c p f) y q e =
-    let w₃ = last-word _ _ _ _ (number-word p) (number-word q) (sym (refused-words x c p) ∙ e ∙ refused-words y refusal.NoRoom q) in
-    let w₂ = last-word _ _ (bytes "at") (bytes "at") ((λ e. omega arith), ((λ e. omega arith), tt)) ((λ e. omega arith), ((λ e. omega arith), tt)) (w₃ .0) in
-    let w₁ = last-word _ _ _ _ (digits-word 20 (numberOf c)) (digits-word 20 8) (w₂ .0) in
+    let w₃ =
+    last-word (numbered x c ++ (space ∷ bytes "at")) (numbered y refusal.NoRoom ++ (space ∷ bytes "at")) _ _ (number-word p) (number-word q)
+    (sym (refused-words x c p) ∙ e ∙ refused-words y refusal.NoRoom q)
+    in
+    let w₂ = last-word (numbered x c) (numbered y refusal.NoRoom) (bytes "at") (bytes "at") at-word at-word (w₃ .0) in
+    let w₁ = last-word (x ++ bytes "refused") (y ++ bytes "refused") _ _ (digits-word 20 (numberOf c)) (digits-word 20 8) (w₂ .0) in
     other c f (w₁ .1)
 
 -- No output of the program ends in a line `refused 8 at P`.

@@ -10,7 +10,7 @@ use Rattle.records.specs.Applying.{applied}
 use Rattle.records.specs.declared.ApplyAnswer.{ApplyAnswer}
 use Rattle.records.specs.declared.Applied.{Applied}
 use Rattle.printout.specs.Program.{textRoom, endLine, lineAfter}
-use Rattle.printout.specs.Steps.{Step, lastStep, answeredStep, recordStep, stepOf}
+use Rattle.printout.specs.Steps.{Step, lastStep, appliedAt, answeredStep, recordStep, stepOf}
 use Rattle.printout.specs.declared.Session.{Session}
 use Rattle.printout.specs.declared.Printing.{Printing}
 use Rattle.printout.proofs.Taking.{Takes, takes}
@@ -24,14 +24,14 @@ as-step l {r} {l′} {out′} e h = subst (λ (t : Step). Shows t l r l′ out�
 
 -- the part of the input from the session's place on, and the buffer of the program
 pub applied-rest : (s : Session) (b : List ℕ) {room : ℕ} {x : Applied} → room ≡ textRoom →
-    x ≡ applied (s .held) (take (length b - s .at) (drop (s .at) b)) room → x ≡ applied (s .held) (drop (s .at) b) textRoom
+    x ≡ applied (s .held) (take (length b - s .at) (drop (s .at) b)) room → x ≡ appliedAt s b
 applied-rest s b {room} g e =
     e
     ∙ ap (λ (l : List ℕ). applied (s .held) l room) (take-all (length b - s .at) (drop (s .at) b) (simp length-drop (omega arith)))
     ∙ ap (applied (s .held) (drop (s .at) b)) g
 
 -- the step of a record, by the answer to it; and what the record took
-module _ (s : Session) (b : List ℕ) {x : Applied} (e : x ≡ applied (s .held) (drop (s .at) b) textRoom) {a : ApplyAnswer} (g : x .answer ≡ a) where
+module _ (s : Session) (b : List ℕ) {x : Applied} (e : x ≡ appliedAt s b) {a : ApplyAnswer} (g : x .answer ≡ a) where
   pub answered : (out : List ℕ) → recordStep s b out ≡ answeredStep a (x .held) s out
   answered out =
       ap (λ (y : Applied). answeredStep (y .answer) (y .held) s out) (sym e) ∙ ap (λ (y : ApplyAnswer). answeredStep y (x .held) s out) g

@@ -7,6 +7,7 @@ use lib.Dec.{eqb, leb}
 use lib.ListN.{length, drop}
 use Rattle.records.specs.Applying.{nothingHeld, textAfter, applied}
 use Rattle.records.specs.declared.Held.{Held}
+use Rattle.records.specs.declared.Applied.{Applied}
 use Rattle.records.specs.declared.ApplyAnswer.{ApplyAnswer}
 use Rattle.records.specs.declared.ApplyAnswer.the-variants as answer
 use Rattle.printout.specs.Program.{textRoom, emitLine, endLine, refusedLine}
@@ -44,10 +45,12 @@ answeredStep (answer.Text m e) h s out =
     }
 answeredStep (answer.Refused c) h s out = lastStep (refusedLine c (s .at)) s out
 
--- for the record where the session stands
+-- what is answered to the record where the session stands, and what is held then
+abbrev pub appliedAt : Session → List ℕ → Applied
+appliedAt s b = applied (s .held) (drop (s .at) b) textRoom
+
 abbrev pub recordStep : Session → List ℕ → List ℕ → Step
-recordStep s b out =
-    answeredStep (applied (s .held) (drop (s .at) b) textRoom .answer) (applied (s .held) (drop (s .at) b) textRoom .held) s out
+recordStep s b out = answeredStep (appliedAt s b .answer) (appliedAt s b .held) s out
 
 -- A session whose offset lies beyond the input, or that counts more texts than bytes read, cannot belong to this input.
 abbrev pub ready : Session → List ℕ → Bool

@@ -6,7 +6,7 @@ use lines::put_emit_line;
 use lines::put_end_line;
 use lines::put_refused_line;
 use records::ApplyAnswer;
-pub use records::Held;
+use records::Held;
 use records::apply;
 use records::nothing_held;
 ghost use Prim.Native.Nat.{_+_, _<_, _≤_, _^_};

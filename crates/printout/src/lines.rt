@@ -37,7 +37,7 @@ fn put_number(out: &mut [u8], at: usize, n: usize) -> usize
     put_digits(out, at, DIGITS, n)
 }
 
-pub fn put_emit_line(line: &mut [u8; LINE_LENGTH], emitted: Emitted) -> usize
+pub(crate) fn put_emit_line(line: &mut [u8; LINE_LENGTH], emitted: Emitted) -> usize
     ensures length { λ r. ⌜ r ≡ length (emitLine emitted) ⌝ }
     ensures line { λ _. ⌜ now (line .exit) ≡ lineAfter (emitLine emitted) (now (line .entry)) ⌝ }
 {
@@ -52,7 +52,7 @@ pub fn put_emit_line(line: &mut [u8; LINE_LENGTH], emitted: Emitted) -> usize
     put(line, h, b"\n")
 }
 
-pub fn put_end_line(line: &mut [u8; LINE_LENGTH], texts: usize) -> usize
+pub(crate) fn put_end_line(line: &mut [u8; LINE_LENGTH], texts: usize) -> usize
     ensures length { λ r. ⌜ r ≡ length (endLine texts) ⌝ }
     ensures line { λ _. ⌜ now (line .exit) ≡ lineAfter (endLine texts) (now (line .entry)) ⌝ }
 {

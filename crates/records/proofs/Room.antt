@@ -1,17 +1,21 @@
 -- A held key has eight stages, so that a buffer of 16,384 bytes takes its text: there no record is refused with 8.
 use mathlib.Core.Path.{_≡_, refl, sym, _∙_}
-use mathlib.Core.Bool.{Bool, true, false, cond}
+use mathlib.Core.Bool.{Bool, true, false, cond, true≢false}
 use mathlib.Core.List.{List, [], _∷_}
 use Prim.Native.Nat.{ℕ, _≤_}
 use native.Mathlib.Omega.{arith}
-use lib.ListN.{length}
-use Rattle.shader.specs.Results.{emissionNumber}
+use borrow.Author.Tests.{ne-eqb}
+use lib.Dec.{eqb, ltb}
+use lib.ListN.{length, getD}
+use Rattle.values.specs.Flags.{stageFlagsBad, variantFlagsBad}
+use Rattle.values.specs.Entries.{entryGood}
 use Rattle.shader.proofs.Length.{never-eight}
+use Rattle.wire.specs.Bodies.{bodyLength, specularByte, keyFromBody, variantFromBody, entryFromBody}
+use Rattle.wire.specs.Values.{blankKey}
 use Rattle.wire.specs.Reading.{bodyNumber, recordNumber, readRecord}
 use Rattle.wire.specs.declared.Kind.{Kind}
 use Rattle.wire.specs.declared.Kind.the-variants as kind
 use Rattle.wire.specs.declared.Record.{Record}
-use Rattle.wire.proofs.Bodies.{stages-blank}
 use Rattle.wire.proofs.Found.{read-shaped}
 use Rattle.records.specs.Applying.{nothingHeld, holdsAll, holding, heldAfter, applyAnswer, applied, applyNumber, emitNumber, appliedNumber}
 use Rattle.records.specs.declared.Held.{Held}
@@ -23,7 +27,8 @@ abbrev pub EightStages : Held → Type 0
 EightStages h = length (h .key .stages) ≡ 8
 
 pub nothing-held-eight : EightStages nothingHeld
-nothing-held-eight = stages-blank
+unfolding blankKey
+nothing-held-eight = refl
 
 holding-eight : (k : Kind) (r : Record) (h : Held) → length (r .key .stages) ≡ 8 → EightStages h → EightStages (holding k r h)
 unfolding holding
@@ -40,40 +45,42 @@ after-eight (Refused c) r h s t = t
 pub applied-eight : (h : Held) (b : List ℕ) (room : ℕ) → EightStages h → EightStages (applied h b room .held)
 applied-eight h b room t = after-eight (applyAnswer h b room) (readRecord b .found) h (read-shaped b .stages) t
 
--- a choice between numbers that are not 8
-neither : (t : Bool) (x y : ℕ) → (x ≡ 8 → ⊥) → (y ≡ 8 → ⊥) → cond t x y ≡ 8 → ⊥
+-- Which numbers are not 8: of a choice both, of the reader all, of an emit record those that leave room.
+abbrev NotEight : ℕ → Type 0
+NotEight n = eqb n 8 ≡ false
+
+neither : (t : Bool) (x y : ℕ) → NotEight x → NotEight y → NotEight (cond t x y)
 neither true x y p q = p
 neither false x y p q = q
 
-body-never : (k : Kind) (b : List ℕ) → bodyNumber k b ≡ 8 → ⊥
+body-number : (k : Kind) (b : List ℕ) → NotEight (bodyNumber k b)
 unfolding bodyNumber
-body-never kind.Key b = neither _ 3 _ (λ e. omega arith) (neither _ 4 0 (λ e. omega arith) (λ e. omega arith))
-body-never kind.Variant b = neither _ 5 0 (λ e. omega arith) (λ e. omega arith)
-body-never kind.Entry b = neither _ 0 6 (λ e. omega arith) (λ e. omega arith)
-body-never kind.Emit b = λ e. omega arith
+body-number kind.Key b = neither (stageFlagsBad (keyFromBody b .stages)) 3 _ refl (neither (ltb 1 (specularByte b)) 4 0 refl refl)
+body-number kind.Variant b = neither (variantFlagsBad (variantFromBody b)) 5 0 refl refl
+body-number kind.Entry b = neither (entryGood (entryFromBody b)) 0 6 refl refl
+body-number kind.Emit b = refl
 
--- the reader's numbers
-read-never : (b : List ℕ) → recordNumber b ≡ 8 → ⊥
+record-number : (b : List ℕ) → NotEight (recordNumber b)
 unfolding recordNumber
-read-never [] = λ e. omega arith
-read-never (x ∷ b) =
-    neither _ _ _ (named kind.Key)
-    (neither _ _ _ (named kind.Variant) (neither _ _ _ (named kind.Entry) (neither _ _ 2 (named kind.Emit) (λ e. omega arith))))
+record-number [] = refl
+record-number (x ∷ b) =
+    neither (eqb x 1) _ _ (whole kind.Key)
+    (neither (eqb x 2) _ _ (whole kind.Variant) (neither (eqb x 3) _ _ (whole kind.Entry) (neither (eqb x 4) _ 2 (whole kind.Emit) refl)))
   where
-    named : (k : Kind) {t : Bool} → cond t 1 (bodyNumber k b) ≡ 8 → ⊥
-    named k {t} = neither t 1 _ (λ e. omega arith) (body-never k b)
+    whole : (k : Kind) → NotEight (cond (ltb (length b) (bodyLength k)) 1 (bodyNumber k b))
+    whole k = neither (ltb (length b) (bodyLength k)) 1 _ refl (body-number k b)
 
 module _ (h : Held) (stages : EightStages h) (room : ℕ) (enough : 16384 ≤ room) where
-  -- those of an emit record
-  emit-never : emitNumber h room ≡ 8 → ⊥
+  emit-number : NotEight (emitNumber h room)
   unfolding emitNumber
-  emit-never =
-      neither (holdsAll h) (emissionNumber (h .key) (h .variant) (h .entry) room) 7
-      (never-eight (h .key) (h .variant) (h .entry) (omega (arith, stages)) room enough) (λ e. omega arith)
+  emit-number =
+      neither (holdsAll h) _ 7 (ne-eqb _ _ (never-eight (h .key) (h .variant) (h .entry) (omega (arith, stages)) room enough)) refl
 
-  number-never : (b : List ℕ) → appliedNumber h b room ≡ 8 → ⊥
+  number : (b : List ℕ) → NotEight (appliedNumber h b room)
   unfolding appliedNumber
-  number-never b = neither _ _ _ (neither _ _ 0 emit-never (λ e. omega arith)) (read-never b)
+  number b = neither (eqb (recordNumber b) 0) _ _ (neither (eqb (getD b 0 0) 4) _ 0 emit-number refl) (record-number b)
 
   pub applied-never-eight : (b : List ℕ) → applyNumber (applyAnswer h b room) ≡ 8 → ⊥
-  applied-never-eight b e = number-never b (sym (applied-number {a = applied h b room} h b room refl) ∙ e)
+  applied-never-eight b e =
+      let n : appliedNumber h b room ≡ 8 = sym (applied-number {a = applied h b room} h b room refl) ∙ e in
+      true≢false (rw n at (number b))

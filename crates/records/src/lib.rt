@@ -1,12 +1,10 @@
 //! The held values, and the record at the front of some bytes applied to them.
 use emission::emit;
-pub use values::Combiner;
-pub use values::Emitted;
-pub use values::Entry;
-pub use values::Key;
-pub use values::Refusal;
-pub use values::Stage;
-pub use values::Variant;
+use values::Emitted;
+use values::Entry;
+use values::Key;
+use values::Refusal;
+use values::Variant;
 use wire::Kind;
 use wire::ReadAnswer;
 use wire::Record;
@@ -92,7 +90,7 @@ fn holds_all(held: Held) -> bool
 }
 
 // An emit record that took n bytes. A refusal leaves text as it was.
-pub fn emit_held(held: Held, n: usize, text: &mut [u8]) -> ApplyAnswer
+fn emit_held(held: Held, n: usize, text: &mut [u8]) -> ApplyAnswer
     ensures answer { λ r. ⌜ r ≡ applyAs Kind.Emit n held (length (now (text .entry))) ⌝ }
     ensures buffer { λ r. ⌜ now (text .exit) ≡ textAfter r held (now (text .entry)) ⌝ }
     ensures names { λ r. ⌜ AppliedDemand3 held r (now (text .exit)) ⌝ }

@@ -1,9 +1,8 @@
 -- The loop ends, since each record takes a byte at least.
 use Prim.Native.Nat.{_-_}
-use native.Mathlib.Omega.{arith}
 use borrow.Author.Tests.{not-false}
 use lib.ListN.{length}
-use Rattle.printout.proofs.Printed.{further}
+use Rattle.printout.proofs.Printed.{less-left}
 use Rattle.ffps.proofs.print_output.Statement.{statement}
 use Rattle.ffps.proofs.print_output.Tie as tie
 
@@ -19,8 +18,7 @@ loop-less c =
     let s1 = s2 .before .before .before .before .before .before in
     let l = s1 .before .before .before in
     let a = l .before .before .before .args in
-    let f = further (l .loop .session) (a .input .now) (l .loop .text) (s1 .step .ensures .0) (not-false _ (s2 .if2 .left)) in
-    omega (arith, f .0, f .1)
+    less-left (l .loop .session) (a .input .now) (l .loop .text) (s1 .step .ensures .0) (not-false _ (s2 .if2 .left))
 
 pub print-output-spec : {M : Type 1} → statement M
 print-output-spec =

@@ -1,3 +1,4 @@
+-- What was read stands within the buffer.
 use mathlib.Core.Path.{refl, sym}
 use native.Mathlib.Omega.{arith}
 use borrow.Author.Needs.{needs}

@@ -1,3 +1,4 @@
+-- A session begins with nothing held.
 use Rattle.printout.proofs.begin.Statement.{statement}
 use Rattle.printout.proofs.begin.Tie as tie
 

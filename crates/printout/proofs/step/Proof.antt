@@ -3,7 +3,6 @@ use mathlib.Core.Bool.{false}
 use mathlib.Core.Path.{refl, ap, _∙_}
 use Prim.Native.Nat.{ℕ}
 use native.Mathlib.Omega.{arith}
-use borrow.Author.Needs.{needs}
 use Rattle.printout.specs.Steps.{stepped}
 use Rattle.printout.proofs.Steps.{as-step, behind-input, too-many, used-up, at-record}
 use Rattle.printout.proofs.step.Statement.{statement}

@@ -4,11 +4,8 @@ use mathlib.Core.Path.{_≡_, refl, ap, _∙_}
 use Prim.Native.Nat.{ℕ, _<_, _^_}
 use native.Mathlib.Omega.{arith}
 use borrow.Author.Needs.{needs}
-use lib.ListN.{length, drop}
-use Rattle.records.specs.Applying.{applied, textAfter}
-use Rattle.records.specs.declared.ApplyAnswer.{ApplyAnswer}
-use Rattle.printout.specs.Program.{textRoom}
-use Rattle.printout.specs.Steps.{answeredStep, stepped}
+use lib.ListN.{length}
+use Rattle.printout.specs.Steps.{appliedAt, answeredStep, stepped}
 use Rattle.printout.proofs.Steps.{as-step, applied-rest, answered, taken, on-fits}
 use Rattle.printout.proofs.step_record.Statement.{statement}
 use Rattle.printout.proofs.step_record.Tie as tie
@@ -20,7 +17,7 @@ short : (s : tie.Start) → length (s .args .input .now) < 2 ^ 64
 short s = omega arith
 
 -- what was applied is the record where the session stands
-rest : (s : tie.After-apply) → s .apply .result ≡ applied (start s .args .session .held) (drop (start s .args .session .at) (start s .args .input .now)) textRoom
+rest : (s : tie.After-apply) → s .apply .result ≡ appliedAt (start s .args .session) (start s .args .input .now)
 unfolding start
 rest s = let a = start s .args in applied-rest (a .session) (a .input .now) (s .before .apply-arg2 .given .0 .1) (s .apply .ensures .0)
 
@@ -29,14 +26,16 @@ unfolding start
 on-requires c κs =
     let s = c .before .before .before .before in
     let b = start s in
-    on-fits (b .args .session) (b .args .input .now) _ 0 (b .pre .1) (taken (b .args .session) (b .args .input .now) (rest s) (c .before .answer2 .given .1)) (omega arith) (b .pre .0) (short b)
+    let t = taken (b .args .session) (b .args .input .now) (rest s) (c .before .answer2 .given .1) in
+    on-fits (b .args .session) (b .args .input .now) _ 0 (b .pre .1) t (omega arith) (b .pre .0) (short b)
 
 on-requires-2 : tie.Need-on-requires-2
 unfolding start
 on-requires-2 c κs =
     let s = c .before .before .before .before in
     let b = start s in
-    on-fits (b .args .session) (b .args .input .now) _ 1 (b .pre .1) (taken (b .args .session) (b .args .input .now) (rest s) (c .before .answer3 .given .1)) (omega arith) (b .pre .0) (short b)
+    let t = taken (b .args .session) (b .args .input .now) (rest s) (c .before .answer3 .given .1) in
+    on-fits (b .args .session) (b .args .input .now) _ 1 (b .pre .1) t (omega arith) (b .pre .0) (short b)
 
 returns : tie.Need-returns
 unfolding start answeredStep

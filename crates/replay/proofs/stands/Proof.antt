@@ -1,3 +1,4 @@
+-- The loop compares only where the expected bytes go on far enough, so that a place behind them is none.
 use Prim.Native.Nat.{_+_, _-_, _≤_}
 use mathlib.Core.Path.{sym}
 use mathlib.Core.Bool.{true≢false}

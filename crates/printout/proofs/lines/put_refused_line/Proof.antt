@@ -11,8 +11,14 @@ returns c =
     let s3 = s4 .before .before in
     let s2 = s3 .before .before .before in
     let s1 = s2 .before .before .before in
-    refused-line _ _
-    (rw (s2 .before .number .ensures) at (s1 .put .ensures .written ⨾ s2 .put-decimal .ensures ⨾ s3 .put2 .ensures .written ⨾ s4 .put-number .ensures ⨾ c .put3 .ensures .written)) (search needs)
+    let w =
+    s1 .put .ensures .written
+    ⨾ s2 .put-decimal .ensures
+    ⨾ s3 .put2 .ensures .written
+    ⨾ s4 .put-number .ensures
+    ⨾ c .put3 .ensures .written
+    in
+    refused-line _ _ (rw (s2 .before .number .ensures) at w) (search needs)
 
 pub put-refused-line-spec : {M : Type 1} → statement M
 put-refused-line-spec =
