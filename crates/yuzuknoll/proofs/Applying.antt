@@ -22,11 +22,12 @@ use Rattle.wire.specs.Reading.{bodyNumber, recordNumber}
 use Rattle.wire.specs.declared.Kind.{Kind}
 use Rattle.wire.specs.declared.Kind.the-variants as kind
 use Rattle.wire.proofs.Kind.{the-type}
-use Rattle.records.specs.Applying.{holdsAll}
-use Rattle.yuzuknoll.specs.Lent.{after, recordNumbers, NamesHold}
+use Rattle.records.specs.Applying.{holdsAll, emitNumber, appliedNumber}
+use Rattle.yuzuknoll.specs.Lent.{after, recordNumbers, ReportedDemand3}
 use Rattle.yuzuknoll.specs.Records.{kindIn}
-use Rattle.yuzuknoll.specs.Applying.{placeOf, heldBody, isHeld, heldOf, onEmit, emitNumber, heldWith, textWith, noResult, resultWith, appliedNumbers, appliedNumber}
+use Rattle.yuzuknoll.specs.Applying.{placeOf, heldBody, isHeld, heldOf, onEmit, heldWith, textWith, noResult, resultWith, appliedNumbers}
 use Rattle.yuzuknoll.proofs.Lent.{not-zero, left, first-refused, first-passed}
+use Rattle.yuzuknoll.proofs.Checking.{taken}
 use Rattle.yuzuknoll.proofs.Emitting.{Emits, admitted}
 
 -- five numbers, one by one
@@ -63,9 +64,9 @@ module _ (held : List ℕ) {k : Key} {v : Variant} {e : Entry} (p : k ≡ keyFro
 module _ (held out res : List ℕ) where
   abbrev pub HeldEmits : ℕ → List ℕ → List ℕ → Type 0
   HeldEmits n out′ res′ =
-      (n ≡ emitNumber kind.Emit (heldOf held) (length out))
+      (n ≡ emitNumber (heldOf held) (length out))
       × ((out′ ≡ after n (textWith kind.Emit (heldOf held) out) out)
-      × ((res′ ≡ after n (resultWith kind.Emit (heldOf held)) res) × (n ≡ 0 → NamesHold (heldOf held .key) out′ res′)))
+      × ((res′ ≡ after n (resultWith kind.Emit (heldOf held)) res) × (n ≡ 0 → ReportedDemand3 (heldOf held .key) out′ res′)))
 
   module _ {all : Bool} (e : all ≡ holdsAll (heldOf held)) where
     pub too-early : {n : ℕ} → all ≡ false → n ≡ 7 → HeldEmits n out res
@@ -89,9 +90,9 @@ laid k held b e f g h w = let u = rw (e, f) at w in u .fits (omega (arith, lengt
 module _ (held out apd : List ℕ) where
   abbrev pub EmitApplied : ℕ → List ℕ → List ℕ → Type 0
   EmitApplied n out′ apd′ =
-      (n ≡ emitNumber kind.Emit (heldOf held) (length out))
+      (n ≡ emitNumber (heldOf held) (length out))
       × ((out′ ≡ after n (textWith kind.Emit (heldOf held) out) out)
-      × ((apd′ ≡ after n (appliedNumbers kind.Emit (heldOf held)) apd) × (n ≡ 0 → NamesHold (heldOf held .key) out′ (drop 2 apd′))))
+      × ((apd′ ≡ after n (appliedNumbers kind.Emit (heldOf held)) apd) × (n ≡ 0 → ReportedDemand3 (heldOf held .key) out′ (drop 2 apd′))))
 
   module _ (res : List ℕ) {n : ℕ} {out′ res′ : List ℕ} (s : HeldEmits held out res n out′ res′) where
     pub emit-refused : (n ≡ 0 → ⊥) → EmitApplied n out′ apd
@@ -112,6 +113,12 @@ other kind.Variant v x y = refl
 other kind.Entry v x y = refl
 other kind.Emit v x y = absurd (omega arith)
 
+emit-byte : (k : Kind) (n : ℕ) → onEmit k n 0 ≡ cond (eqb (kindByte k) 4) n 0
+emit-byte kind.Key n = refl
+emit-byte kind.Variant n = refl
+emit-byte kind.Entry n = refl
+emit-byte kind.Emit n = refl
+
 pub no-emit : (k : Kind) → OneOf (0 ∷ 1 ∷ 2 ∷ []) (tagOf the-type k) → isEmit k ≡ 0
 no-emit kind.Key h = refl
 no-emit kind.Variant h = refl
@@ -125,7 +132,7 @@ has-room kind.Entry v = omega arith
 has-room kind.Emit v = absurd (omega arith)
 
 -- one that leaves held bytes as they are
-either-way : (t : Bool) (l : List ℕ) → l ≡ cond t l l
+pub either-way : (t : Bool) (l : List ℕ) → l ≡ cond t l l
 either-way true l = refl
 either-way false l = refl
 
@@ -133,21 +140,25 @@ either-way false l = refl
 module _ (held b out apd : List ℕ) where
   abbrev Applies : ℕ → List ℕ → List ℕ → List ℕ → Type 0
   Applies n held′ out′ apd′ =
-      (n ≡ appliedNumber b (heldOf held) (length out))
+      (n ≡ appliedNumber (heldOf held) b (length out))
       × ((held′ ≡ after n (heldWith (kindIn b) b held) held)
       × ((out′ ≡ after n (textWith (kindIn b) (heldOf held) out) out)
       × ((apd′ ≡ after n (appliedNumbers (kindIn b) (heldOf held)) apd)
-      × (n ≡ 0 → kindIn b ≡ kind.Emit → NamesHold (heldOf held .key) out′ (drop 2 apd′)))))
+      × (n ≡ 0 → kindIn b ≡ kind.Emit → ReportedDemand3 (heldOf held .key) out′ (drop 2 apd′)))))
 
   pub apply-refused : {n : ℕ} → n ≡ recordNumber b → (n ≡ 0 → ⊥) → Applies n held out apd
+  unfolding appliedNumber
   apply-refused q h = (first-refused _ q h, (left _ held h, (left _ out h, (left _ apd h, λ z. absurd (h z)))))
 
   module _ (z : recordNumber b ≡ 0) {k : Kind} (g : k ≡ kindIn b) where
-    -- what is left of it behind the reader's number
-    by-kind : {n : ℕ} {held′ out′ apd′ : List ℕ} → n ≡ emitNumber k (heldOf held) (length out) → held′ ≡ after n (heldWith k b held) held →
+    number : {n : ℕ} → n ≡ onEmit k (emitNumber (heldOf held) (length out)) 0 → n ≡ appliedNumber (heldOf held) b (length out)
+    unfolding appliedNumber
+    number p = first-passed refl z (p ∙ rw (taken b z .first, ← g) (emit-byte k _))
+
+    by-kind : {n : ℕ} {held′ out′ apd′ : List ℕ} → n ≡ onEmit k (emitNumber (heldOf held) (length out)) 0 → held′ ≡ after n (heldWith k b held) held →
         out′ ≡ after n (textWith k (heldOf held) out) out → apd′ ≡ after n (appliedNumbers k (heldOf held)) apd →
-        (n ≡ 0 → k ≡ kind.Emit → NamesHold (heldOf held .key) out′ (drop 2 apd′)) → Applies n held′ out′ apd′
-    by-kind p q r s t = (first-passed refl z (rw (← g) p), (rw (← g) q, (rw (← g) r, (rw (← g) s, rw (← g) t))))
+        (n ≡ 0 → k ≡ kind.Emit → ReportedDemand3 (heldOf held .key) out′ (drop 2 apd′)) → Applies n held′ out′ apd′
+    by-kind p q r s t = (number p, (rw (← g) q, (rw (← g) r, (rw (← g) s, rw (← g) t))))
 
     pub apply-emitted : {n : ℕ} {out′ apd′ : List ℕ} → k ≡ kind.Emit → EmitApplied held out apd n out′ apd′ → Applies n held out′ apd′
     unfolding heldWith
@@ -155,7 +166,7 @@ module _ (held b out apd : List ℕ) where
 
     pub apply-kept : {n : ℕ} {held′ apd′ : List ℕ} → isEmit k ≡ 0 → n ≡ 0 → held′ ≡ sets held (placeOf k) (take (recordLength k) b) →
         apd′ ≡ recordNumbers k ++ noResult → Applies n held′ out apd′
-    unfolding emitNumber heldWith textWith resultWith
+    unfolding heldWith textWith resultWith
     apply-kept v e p q =
         by-kind (rw (other k v) e) (rw (e, other k v) p) (rw (e, other k v)) (rw (e, other k v) q)
         (λ _ f. absurd (let w = rw f at v in omega arith))

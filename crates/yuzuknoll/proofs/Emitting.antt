@@ -23,7 +23,7 @@ use Rattle.shader.specs.Demand.{Demanded}
 use Rattle.wire.specs.Bodies.{specularByte, keyFromBody, variantFromBody, entryFromBody}
 use Rattle.wire.specs.Reading.{bodyNumber}
 use Rattle.wire.specs.declared.Kind.the-variants as kind
-use Rattle.yuzuknoll.specs.Lent.{after, firstOf, atFront, resultNumbers, NamesHold}
+use Rattle.yuzuknoll.specs.Lent.{after, firstOf, atFront, resultNumbers, ReportedDemand3}
 use Rattle.yuzuknoll.specs.Emitting.{bodiesNumber, bodiesText, bodiesResult}
 use Rattle.yuzuknoll.proofs.Lent.{not-zero, left, first-refused, first-passed}
 
@@ -33,7 +33,7 @@ module _ (k : Key) (v : Variant) (e : Entry) (out res : List ℕ) where
   Emits n out′ res′ =
       (n ≡ emissionNumber k v e (length out))
       × ((out′ ≡ after n (atFront (textOf k v e) out) out)
-      × ((res′ ≡ after n (resultNumbers (emittedOf k v e)) res) × (n ≡ 0 → NamesHold k out′ res′)))
+      × ((res′ ≡ after n (resultNumbers (emittedOf k v e)) res) × (n ≡ 0 → ReportedDemand3 k out′ res′)))
 
   -- emission's own promise
   abbrev Promise : Answer → List ℕ → Type 0
@@ -121,7 +121,7 @@ module _ (k v e : List ℕ) where
     Answered n out′ res′ =
         (n ≡ bodiesNumber k v e (length out))
         × ((out′ ≡ after n (atFront (bodiesText k v e) out) out)
-        × ((res′ ≡ after n (bodiesResult k v e) res) × (n ≡ 0 → NamesHold (keyFromBody k) out′ res′)))
+        × ((res′ ≡ after n (bodiesResult k v e) res) × (n ≡ 0 → ReportedDemand3 (keyFromBody k) out′ res′)))
 
     refused : {n : ℕ} → n ≡ bodiesNumber k v e (length out) → (n ≡ 0 → ⊥) → Answered n out res
     refused q h = (q, (left _ out h, (left _ res h, λ z. absurd (h z))))

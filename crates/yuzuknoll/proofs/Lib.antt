@@ -3,3 +3,4 @@ mod Checking
 mod Emitting
 pub mod Records
 mod Applying
+pub mod Held

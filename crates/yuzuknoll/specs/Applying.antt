@@ -1,20 +1,18 @@
--- The held key, variant and entry as bytes, and the record at the front of some bytes applied to them: what yuzuknoll_apply answers, holds, writes and
--- reports.
+-- The held key, variant and entry as bytes, and a record applied to them: what yuzuknoll_apply holds, writes and reports. Its number is `appliedNumber`
+-- of records/specs/Applying, for the values that the held bytes stand for.
 use Prim.Native.Nat.{ℕ, _+_}
-use mathlib.Core.Bool.{Bool, _&&_, cond}
+use mathlib.Core.Bool.{Bool, _&&_}
 use mathlib.Core.List.{List, [], _∷_, _++_}
 use lib.Dec.{eqb}
 use lib.ListN.{take, drop, getD}
 use lib.Seq.{sets}
-use Rattle.shader.specs.Results.{emittedOf, textOf, emissionNumber}
+use Rattle.shader.specs.Results.{emittedOf, textOf}
 use Rattle.wire.specs.Bodies.{kindByte, bodyLength, recordLength, keyFromBody, variantFromBody, entryFromBody}
-use Rattle.wire.specs.Reading.{bodyNumber, recordNumber}
+use Rattle.wire.specs.Reading.{bodyNumber}
 use Rattle.wire.specs.declared.Kind.{Kind}
 use Rattle.wire.specs.declared.Kind.the-variants as kind
-use Rattle.records.specs.Applying.{holdsAll}
 use Rattle.records.specs.declared.Held.{Held}
-use Rattle.yuzuknoll.specs.Lent.{firstOf, atFront, recordNumbers, resultNumbers}
-use Rattle.yuzuknoll.specs.Records.{kindIn}
+use Rattle.yuzuknoll.specs.Lent.{atFront, recordNumbers, resultNumbers}
 
 -- What is held.
 
@@ -53,10 +51,6 @@ onEmit kind.Variant emits holds = holds
 onEmit kind.Entry emits holds = holds
 onEmit kind.Emit emits holds = emits
 
--- 7: "emit before key, variant and entry", then emission's number. room is the length of the buffer for the text.
-unfoldable pub emitNumber : Kind → Held → ℕ → ℕ
-emitNumber k h room = onEmit k (cond (holdsAll h) (emissionNumber (h .key) (h .variant) (h .entry) room) 7) 0
-
 -- the record stands over its part of the held bytes
 unfoldable pub heldWith : Kind → List ℕ → List ℕ → List ℕ
 heldWith k b held = onEmit k held (sets held (placeOf k) (take (recordLength k) b))
@@ -74,7 +68,3 @@ resultWith k h = onEmit k (resultNumbers (emittedOf (h .key) (h .variant) (h .en
 
 abbrev pub appliedNumbers : Kind → Held → List ℕ
 appliedNumbers k h = recordNumbers k ++ resultWith k h
-
--- The number of the record at the front of b: the reader's, then that of an emit record.
-abbrev pub appliedNumber : List ℕ → Held → ℕ → ℕ
-appliedNumber b h room = firstOf (recordNumber b) (emitNumber (kindIn b) h room)

@@ -35,6 +35,6 @@ abbrev pub resultOf : List ℕ → Emitted
 resultOf l =
     record { length = getD l 0 0; mask = getD l 1 0; rows = getD l 2 0; lookups = getD l 3 0; warning = getD l 4 0 }
 
--- demand 3 of a key, of the buffer that holds the text, and of the five numbers
-abbrev pub NamesHold : Key → List ℕ → List ℕ → Type 0
-NamesHold key out l = Demand3 key (take (getD l 0 0) out) (resultOf l)
+-- demand 3 of a key, of the buffer that the text begins, and of the five numbers
+abbrev pub ReportedDemand3 : Key → List ℕ → List ℕ → Type 0
+ReportedDemand3 key out l = Demand3 key (take (getD l 0 0) out) (resultOf l)

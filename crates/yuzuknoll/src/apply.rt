@@ -20,12 +20,12 @@ ghost use mathlib.Core.List.{_++_};
 ghost use lib.Dec.{eqb};
 ghost use lib.ListN.{drop, length, take};
 ghost use lib.Seq.{sets};
-ghost use Rattle.records.specs.Applying.{holdsAll};
+ghost use Rattle.records.specs.Applying.{appliedNumber, emitNumber, holdsAll};
 ghost use Rattle.wire.specs.Bodies.{bodyLength, kindByte, recordLength};
 ghost use Rattle.wire.specs.Reading.{bodyNumber};
-ghost use Rattle.yuzuknoll.specs.Lent.{NamesHold, after, recordNumbers};
+ghost use Rattle.yuzuknoll.specs.Lent.{ReportedDemand3, after, recordNumbers};
 ghost use Rattle.yuzuknoll.specs.Records.{kindIn};
-ghost use Rattle.yuzuknoll.specs.Applying.{appliedNumber, appliedNumbers, emitNumber, heldOf, heldWith, noResult, placeOf, resultWith, textWith};
+ghost use Rattle.yuzuknoll.specs.Applying.{appliedNumbers, heldOf, heldWith, noResult, placeOf, resultWith, textWith};
 
 // Where the record of a kind begins in the held bytes.
 fn place_of(kind: Kind) -> usize
@@ -60,10 +60,10 @@ fn holds_all(held: &[u8]) -> bool
 // Emission from the held values.
 fn emit_held(held: &[u8], text: &mut [u8], result: &mut [u64; 5]) -> u64
     requires { ⌜ length (now held) ≡ 113 ⌝ }
-    ensures number { λ r. ⌜ r ≡ emitNumber Kind.Emit (heldOf (now (held .entry))) (length (now (text .entry))) ⌝ }
+    ensures number { λ r. ⌜ r ≡ emitNumber (heldOf (now (held .entry))) (length (now (text .entry))) ⌝ }
     ensures text { λ r. ⌜ now (text .exit) ≡ after r (textWith Kind.Emit (heldOf (now (held .entry))) (now (text .entry))) (now (text .entry)) ⌝ }
     ensures result { λ r. ⌜ now (result .exit) ≡ after r (resultWith Kind.Emit (heldOf (now (held .entry)))) (now (result .entry)) ⌝ }
-    ensures names { λ r. ⌜ (r ≡ 0 → NamesHold (heldOf (now (held .entry)) .key) (now (text .exit)) (now (result .exit))) ⌝ }
+    ensures names { λ r. ⌜ (r ≡ 0 → ReportedDemand3 (heldOf (now (held .entry)) .key) (now (text .exit)) (now (result .exit))) ⌝ }
 {
     if !holds_all(held) {
         return refuse(Refusal::EmitTooEarly);
@@ -104,10 +104,10 @@ fn keep_record(kind: Kind, bytes: &[u8], held: &mut [u8], applied: &mut [u64; 7]
 // An emit record.
 fn emit_record(held: &[u8], text: &mut [u8], applied: &mut [u64; 7]) -> u64
     requires { ⌜ length (now held) ≡ 113 ⌝ }
-    ensures number { λ r. ⌜ r ≡ emitNumber Kind.Emit (heldOf (now (held .entry))) (length (now (text .entry))) ⌝ }
+    ensures number { λ r. ⌜ r ≡ emitNumber (heldOf (now (held .entry))) (length (now (text .entry))) ⌝ }
     ensures text { λ r. ⌜ now (text .exit) ≡ after r (textWith Kind.Emit (heldOf (now (held .entry))) (now (text .entry))) (now (text .entry)) ⌝ }
     ensures applied { λ r. ⌜ now (applied .exit) ≡ after r (appliedNumbers Kind.Emit (heldOf (now (held .entry)))) (now (applied .entry)) ⌝ }
-    ensures names { λ r. ⌜ (r ≡ 0 → NamesHold (heldOf (now (held .entry)) .key) (now (text .exit)) (drop 2 (now (applied .exit)))) ⌝ }
+    ensures names { λ r. ⌜ (r ≡ 0 → ReportedDemand3 (heldOf (now (held .entry)) .key) (now (text .exit)) (drop 2 (now (applied .exit)))) ⌝ }
 {
     let mut result = [0u64; 5];
     let number = emit_held(held, text, &mut result);
@@ -127,11 +127,11 @@ pub extern "C" fn yuzuknoll_apply(
     text: &mut [u8],
     applied: &mut [u64; 7],
 ) -> u64
-    ensures number { λ r. ⌜ r ≡ appliedNumber (now (bytes .entry)) (heldOf (now (held .entry))) (length (now (text .entry))) ⌝ }
+    ensures number { λ r. ⌜ r ≡ appliedNumber (heldOf (now (held .entry))) (now (bytes .entry)) (length (now (text .entry))) ⌝ }
     ensures held { λ r. ⌜ now (held .exit) ≡ after r (heldWith (kindIn (now (bytes .entry))) (now (bytes .entry)) (now (held .entry))) (now (held .entry)) ⌝ }
     ensures text { λ r. ⌜ now (text .exit) ≡ after r (textWith (kindIn (now (bytes .entry))) (heldOf (now (held .entry))) (now (text .entry))) (now (text .entry)) ⌝ }
     ensures applied { λ r. ⌜ now (applied .exit) ≡ after r (appliedNumbers (kindIn (now (bytes .entry))) (heldOf (now (held .entry)))) (now (applied .entry)) ⌝ }
-    ensures names { λ r. ⌜ (r ≡ 0 → kindIn (now (bytes .entry)) ≡ Kind.Emit → NamesHold (heldOf (now (held .entry)) .key) (now (text .exit)) (drop 2 (now (applied .exit)))) ⌝ }
+    ensures names { λ r. ⌜ (r ≡ 0 → kindIn (now (bytes .entry)) ≡ Kind.Emit → ReportedDemand3 (heldOf (now (held .entry)) .key) (now (text .exit)) (drop 2 (now (applied .exit)))) ⌝ }
 {
     let number = record_number(bytes);
     if number != ACCEPTED {

@@ -18,7 +18,7 @@ ghost use lib.ListN.{length};
 ghost use Rattle.values.specs.Admitted.{Admitted};
 ghost use Rattle.shader.specs.Results.{emissionNumber, emittedOf, textOf};
 ghost use Rattle.wire.specs.Bodies.{keyFromBody};
-ghost use Rattle.yuzuknoll.specs.Lent.{NamesHold, after, atFront, resultNumbers};
+ghost use Rattle.yuzuknoll.specs.Lent.{ReportedDemand3, after, atFront, resultNumbers};
 ghost use Rattle.yuzuknoll.specs.Emitting.{bodiesNumber, bodiesResult, bodiesText};
 
 fn report(emitted: Emitted, result: &mut [u64; 5])
@@ -45,7 +45,7 @@ pub(crate) fn emit_values(
     ensures number { λ r. ⌜ r ≡ emissionNumber key variant entry (length (now (text .entry))) ⌝ }
     ensures text { λ r. ⌜ now (text .exit) ≡ after r (atFront (textOf key variant entry) (now (text .entry))) (now (text .entry)) ⌝ }
     ensures result { λ r. ⌜ now (result .exit) ≡ after r (resultNumbers (emittedOf key variant entry)) (now (result .entry)) ⌝ }
-    ensures names { λ r. ⌜ (r ≡ 0 → NamesHold key (now (text .exit)) (now (result .exit))) ⌝ }
+    ensures names { λ r. ⌜ (r ≡ 0 → ReportedDemand3 key (now (text .exit)) (now (result .exit))) ⌝ }
 {
     match emit_checked(key, variant, entry, text) {
         Answer::Refused(cause) => refuse(cause),
@@ -68,7 +68,7 @@ pub extern "C" fn yuzuknoll_emit(
     ensures number { λ r. ⌜ r ≡ bodiesNumber (now (key .entry)) (now (variant .entry)) (now (entry .entry)) (length (now (text .entry))) ⌝ }
     ensures text { λ r. ⌜ now (text .exit) ≡ after r (atFront (bodiesText (now (key .entry)) (now (variant .entry)) (now (entry .entry))) (now (text .entry))) (now (text .entry)) ⌝ }
     ensures result { λ r. ⌜ now (result .exit) ≡ after r (bodiesResult (now (key .entry)) (now (variant .entry)) (now (entry .entry))) (now (result .entry)) ⌝ }
-    ensures names { λ r. ⌜ (r ≡ 0 → NamesHold (keyFromBody (now (key .entry))) (now (text .exit)) (now (result .exit))) ⌝ }
+    ensures names { λ r. ⌜ (r ≡ 0 → ReportedDemand3 (keyFromBody (now (key .entry))) (now (text .exit)) (now (result .exit))) ⌝ }
 {
     let key_refused = key_number(key);
     if key_refused != ACCEPTED {
