@@ -1,1 +1,1 @@
-pub mod Every
+pub mod Passes
