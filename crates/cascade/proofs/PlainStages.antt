@@ -5,10 +5,10 @@ use mathlib.Core.Path.{_≡_, refl, sym}
 use native.Mathlib.Omega.{arith}
 use borrow.Author.Tests.{ne-eqb, lt-leb, ltb-true, eqb-false, eqb-true, not-true}
 use lib.Dec.{eqb, ltb}
-use Rattle.combiners.specs.Codes.{blendFactorAlpha, constant, factor, temp}
-use Rattle.cascade.specs.Keys.{selects, reads, namesFactor, readsConstant}
+use Rattle.combiners.specs.Codes.{constant, factor, temp}
+use Rattle.cascade.specs.Keys.{selects, either, reads, blendsByFactor, namesFactor, readsConstant}
 use Rattle.cascade.specs.Reading.{keeps, readsTemp}
-use Rattle.cascade.specs.Warnings.{either, unknownModifier, unknownSelector, warns}
+use Rattle.cascade.specs.Warnings.{unknownModifier, unknownSelector, warns}
 use Rattle.values.specs.declared.Combiner.{Combiner}
 use Rattle.values.specs.declared.Stage.{Stage}
 use Rattle.cascade.proofs.Guards.{and-false}
@@ -67,7 +67,7 @@ module _ (s : Stage) (p : Selected (s .colour .arg1)) (q : Selected (s .colour .
     rw (no-temp (s .colour) p q, no-temp (s .alpha) u v, and-false, and-false, and-false),
   )
 
-  pub names-by-op : namesFactor s ≡ (eqb (s .colour .op) blendFactorAlpha || eqb (s .alpha .op) blendFactorAlpha)
+  pub names-by-op : namesFactor s ≡ blendsByFactor s
   unfolding namesFactor
   names-by-op = rw (p .0, q .0, u .0, v .0, and-false, or-false)
     where

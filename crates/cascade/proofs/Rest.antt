@@ -12,10 +12,11 @@ use lib.Seq.{length-take-le}
 use Rattle.cascade.specs.Keys.{textured, active, activeCount, bump, maskOf, lastConstant, anyFactor, rowsOf}
 use Rattle.cascade.specs.Reading.{live, lined, marked, readsTexel, readsBumpEnv}
 use Rattle.cascade.specs.Warnings.{anyWarns, stageWarnings}
-use Rattle.cascade.specs.Survey.{marksOf, factsOf, addFact, markedBy, marksFrom, addMark, surveyOf}
+use Rattle.cascade.specs.Survey.{marksOf, surveyOf}
+use Rattle.cascade.specs.Walks.{factsOf, addFact, markedBy, marksFrom, addMark}
 use Rattle.values.specs.declared.Stage.{Stage}
-use Rattle.cascade.specs.declared.Facts.{Facts}
-use Rattle.cascade.specs.declared.Marks.{Marks}
+use Rattle.cascade.specs.declared.walks.Facts.{Facts}
+use Rattle.cascade.specs.declared.walks.Marks.{Marks}
 use Rattle.cascade.proofs.Active.{active-take, count-le, here, past}
 
 -- a bit more below a mask

@@ -31,9 +31,13 @@ readsFirst o = not (eqb o disable || eqb o selectArg2)
 abbrev pub readsSecond : ℕ → Bool
 readsSecond o = not (eqb o disable || eqb o selectArg1)
 
--- an argument selects k
+-- 01: "Selector: argument's low four bits." The argument selects k.
 abbrev pub selects : ℕ → ℕ → Bool
 selects k a = eqb (selector a) k
+
+-- a fact of one of the combiner's arguments
+abbrev pub either : (ℕ → Bool) → Combiner → Bool
+either f c = f (c .arg1) || f (c .arg2)
 
 -- the op reads an argument that selects k
 unfoldable pub reads : ℕ → Combiner → Bool
@@ -66,11 +70,12 @@ readsConstant s =
     || (not (alphaFromColour s) && (not (fallsBack (textured s) (s .alpha)) && reads constant (s .alpha)))
 
 -- 01: "either op is 14, or a colour argument, or with alpha op not 1 an alpha argument, selects 3"
+abbrev pub blendsByFactor : Stage → Bool
+blendsByFactor s = eqb (s .colour .op) blendFactorAlpha || eqb (s .alpha .op) blendFactorAlpha
+
 unfoldable pub namesFactor : Stage → Bool
 namesFactor s =
-    (eqb (s .colour .op) blendFactorAlpha || eqb (s .alpha .op) blendFactorAlpha)
-    || ((selects factor (s .colour .arg1) || selects factor (s .colour .arg2))
-    || (not (eqb (s .alpha .op) disable) && (selects factor (s .alpha .arg1) || selects factor (s .alpha .arg2))))
+    blendsByFactor s || (either (selects factor) (s .colour) || (not (eqb (s .alpha .op) disable) && either (selects factor) (s .alpha)))
 
 -- the stage number plus 2 of the last stage that reads a constant, 0 if none does; i is the first stage's number
 unfoldable pub lastConstant : ℕ → List Stage → ℕ

@@ -3,3 +3,4 @@ pub mod Stages
 pub mod Reading
 pub mod Warnings
 pub mod Survey
+pub mod Walks

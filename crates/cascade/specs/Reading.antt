@@ -22,7 +22,7 @@ readsTempBy tex c = not (fallsBack tex c) && keeps temp tex c
 abbrev pub readsTexelBy : Bool → Combiner → Bool
 readsTexelBy tex c = not (fallsBack tex c) && (keeps texture tex c || readsOwnTexel tex (c .op))
 
--- alpha is an expression
+-- 01: "Alpha is one of: from colour .., kept (alpha op 1, or 22 or 23 without fallback), or an expression."
 unfoldable pub alphaWritten : Stage → Bool
 alphaWritten s =
     not (alphaFromColour s) && (not (eqb (s .alpha .op) disable) && (fallsBack (textured s) (s .alpha) || not (isBumpOp (s .alpha .op))))

@@ -7,7 +7,7 @@ use mathlib.Core.List.{List, [], _∷_}
 use lib.Dec.{leb}
 use Rattle.combiners.specs.Codes.{selector}
 use Rattle.combiners.specs.Combiners.{hasText}
-use Rattle.cascade.specs.Keys.{textured, fallsBack, bump}
+use Rattle.cascade.specs.Keys.{textured, either, fallsBack, bump}
 use Rattle.cascade.specs.Reading.{alphaWritten}
 use Rattle.values.specs.declared.Combiner.{Combiner}
 use Rattle.values.specs.declared.Stage.{Stage}
@@ -20,10 +20,6 @@ unknownSelector a = leb 7 (selector a)
 
 abbrev pub unknownModifier : ℕ → Bool
 unknownModifier a = leb 0x40 a
-
--- a cause holds of an argument of the combiner
-abbrev pub either : (ℕ → Bool) → Combiner → Bool
-either f c = f (c .arg1) || f (c .arg2)
 
 -- the combiners that the stage applies: colour's outside a fallback, and alpha's where that is an expression outside a fallback; a bump stage none
 unfoldable pub appliesColour : Stage → Bool

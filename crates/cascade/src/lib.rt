@@ -26,24 +26,6 @@ pub enum Decoded {
     Bump,
 }
 
-// What the stages say each by itself: the mask, the last constant row, whether the factor is named and TEMP read, and causes of warnings.
-pub struct Facts {
-    pub mask: u8,
-    pub constant: u8,
-    pub factor: bool,
-    pub live: bool,
-    pub op: bool,
-    pub selector: bool,
-    pub modifier: bool,
-}
-
-// What they say once it is known whether TEMP is live: whether the first is marked, all marks, and whether `bump_env` is read.
-pub struct Marks {
-    pub next: bool,
-    pub marks: u8,
-    pub bump_env: bool,
-}
-
 // What a key says before any byte of text.
 pub struct Survey {
     pub count: usize,

@@ -1,12 +1,11 @@
 //! Plain stages: most name neither a constant, nor the factor, nor TEMP, and no selector or modifier that warns.
 use values::Stage;
 ghost use mathlib.Core.Path.{_≡_};
-ghost use mathlib.Core.Bool.{true, false, _||_};
-ghost use lib.Dec.{eqb};
-ghost use Rattle.combiners.specs.Codes.{blendFactorAlpha, constant, factor, temp};
-ghost use Rattle.cascade.specs.Keys.{namesFactor, readsConstant, selects};
+ghost use mathlib.Core.Bool.{true, false};
+ghost use Rattle.combiners.specs.Codes.{constant, factor, temp};
+ghost use Rattle.cascade.specs.Keys.{either, blendsByFactor, namesFactor, readsConstant, selects};
 ghost use Rattle.cascade.specs.Reading.{readsTemp};
-ghost use Rattle.cascade.specs.Warnings.{either, unknownModifier, unknownSelector, warns};
+ghost use Rattle.cascade.specs.Warnings.{unknownModifier, unknownSelector, warns};
 
 // DIFFUSE, CURRENT, TEXTURE or SPECULAR, with or without the modifiers that are known.
 fn plain_argument(arg: u8) -> bool
@@ -18,7 +17,7 @@ fn plain_argument(arg: u8) -> bool
 
 pub(crate) fn is_plain(s: Stage) -> bool
     ensures reads { λ r. ⌜ (r ≡ true → (readsConstant s ≡ false) × (readsTemp s ≡ false)) ⌝ }
-    ensures names { λ r. ⌜ (r ≡ true → namesFactor s ≡ (eqb (s .colour .op) blendFactorAlpha || eqb (s .alpha .op) blendFactorAlpha)) ⌝ }
+    ensures names { λ r. ⌜ (r ≡ true → namesFactor s ≡ blendsByFactor s) ⌝ }
     ensures warns { λ r. ⌜ (r ≡ true → (warns (either unknownSelector) s ≡ false) × (warns (either unknownModifier) s ≡ false)) ⌝ }
 {
     let c = s.colour;

@@ -1,6 +1,4 @@
 //! What a key says before any byte of text. Each walk goes from the last active stage to the first, as the rules speak of the stages behind one.
-use crate::Facts;
-use crate::Marks;
 use crate::Survey;
 use crate::keys::active_count;
 use crate::keys::falls_back;
@@ -22,9 +20,28 @@ ghost use Prim.Native.Nat.{_<_, _≤_, _+_};
 ghost use mathlib.Core.Path.{_≡_};
 ghost use mathlib.Core.Bool.{cond};
 ghost use lib.Dec.{eqb};
-ghost use Rattle.cascade.specs.Keys.{active, activeCount, readsConstant};
-ghost use Rattle.cascade.specs.Warnings.{withoutText, unknownSelector, unknownModifier, either, appliesColour, appliesAlpha, warns};
-ghost use Rattle.cascade.specs.Survey.{factsOf, addFact, marksFrom, addMark, surveyOf};
+ghost use Rattle.cascade.specs.Keys.{active, activeCount, either, readsConstant};
+ghost use Rattle.cascade.specs.Warnings.{withoutText, unknownSelector, unknownModifier, appliesColour, appliesAlpha, warns};
+ghost use Rattle.cascade.specs.Survey.{surveyOf};
+ghost use Rattle.cascade.specs.Walks.{factsOf, addFact, marksFrom, addMark};
+
+// What the stages say each by itself: the mask, the last constant row, whether the factor is named and TEMP read, and causes of warnings.
+struct Facts {
+    mask: u8,
+    constant: u8,
+    factor: bool,
+    live: bool,
+    op: bool,
+    selector: bool,
+    modifier: bool,
+}
+
+// What they say once it is known whether TEMP is live: whether the first is marked, all marks, and whether `bump_env` is read.
+struct Marks {
+    next: bool,
+    marks: u8,
+    bump_env: bool,
+}
 
 fn applies_colour(s: Stage) -> bool
     ensures { λ r. ⌜ r ≡ appliesColour s ⌝ }
@@ -149,7 +166,7 @@ fn add_fact(f: Facts, s: Stage, i: u8) -> Facts
     }
 }
 
-fn facts(k: Key, n: usize) -> Facts
+fn facts_of(k: Key, n: usize) -> Facts
     requires { ⌜ n ≡ activeCount (k .stages) ⌝ }
     ensures { λ r. ⌜ r ≡ factsOf 0 (active (k .stages)) ⌝ }
 {
@@ -186,7 +203,7 @@ fn add_mark(m: Marks, s: Stage, alive: bool) -> Marks
     }
 }
 
-fn marks(k: Key, n: usize, alive: bool) -> Marks
+fn marks_from(k: Key, n: usize, alive: bool) -> Marks
     requires { ⌜ n ≡ activeCount (k .stages) ⌝ }
     ensures { λ r. ⌜ r ≡ marksFrom alive (active (k .stages)) ⌝ }
 {
@@ -217,8 +234,8 @@ pub fn survey(k: Key) -> Survey
     ensures { λ r. ⌜ r ≡ surveyOf (k .stages) ⌝ }
 {
     let n = active_count(k);
-    let f = facts(k, n);
-    let m = marks(k, n, f.live);
+    let f = facts_of(k, n);
+    let m = marks_from(k, n, f.live);
     Survey {
         count: n,
         mask: f.mask,

@@ -7,28 +7,34 @@ use native.Mathlib.Nat.{zero-add}
 use native.Mathlib.Omega.{arith}
 use mathlib.Core.Logic.{by-cases}
 use native.Mathlib.Decide.{decLe}
-use borrow.Author.Tests.{le-leb, lt-leb}
+use borrow.Author.Tests.{le-leb, lt-leb, le-ltb, lt-ltb}
 use lib.Dec.{leb, T, leb→le}
 use lib.ListN.{length, take, drop, length-append, length-drop}
 use lib.Seq.{take-at}
 use Rattle.text.specs.Text.{raw}
 use Rattle.text.specs.Buffer.{Wrote}
 use Rattle.text.proofs.Laws.{whole}
-use Rattle.cascade.specs.Keys.{active}
+use Rattle.cascade.specs.Keys.{active, either}
 use Rattle.cascade.specs.Reading.{lookupsOf}
-use Rattle.cascade.specs.Warnings.{withoutText, unknownSelector, unknownModifier, either, anyWarns, stageWarnings}
+use Rattle.cascade.specs.Warnings.{withoutText, unknownSelector, unknownModifier, anyWarns, stageWarnings}
 use Rattle.cascade.specs.Survey.{surveyOf}
 use Rattle.values.specs.declared.Stage.{Stage}
 use Rattle.values.specs.declared.Key.{Key}
 use Rattle.cascade.specs.declared.Survey.{Survey}
 use Rattle.shader.specs.Whole.{wholeText}
+use Rattle.values.specs.Flags.{stageFlagsBad, variantFlagsBad}
 use Rattle.values.specs.Entries.{entryGood}
-use Rattle.shader.specs.Results.{textOf, emittedOf}
+use Rattle.values.specs.Admitted.{Admitted}
+use Rattle.shader.specs.Results.{textOf, emittedOf, answerOf, answerNumber, emissionNumber}
 use Rattle.shader.specs.Demand.{Demand3}
 use Rattle.values.specs.declared.Variant.{Variant}
 use Rattle.values.specs.declared.Entry.{Entry}
 use Rattle.values.specs.declared.Emitted.{Emitted}
+use Rattle.values.specs.declared.Refusal.the-variants.{StageFlags, VariantFlags, EntryName, NoRoom}
+use Rattle.values.specs.declared.Answer.{Answer}
+use Rattle.values.specs.declared.Answer.the-variants.{Text, Refused}
 use Rattle.shader.proofs.Names.Whole.{demand}
+use Rattle.shader.proofs.Numbers.{number-of-answer}
 
 warnings-le : (a b c : Bool) → cond a 1 0 + cond b 2 0 + cond c 4 0 ≤ 7
 warnings-le true true true = omega arith
@@ -58,7 +64,7 @@ pub placed : {l l′ : List ℕ} {at : ℕ} (k : Key) (v : Variant) (e : Entry) 
 placed k v e w h = (w .fits (rw zero-add h) .1 ∙ rw zero-add, whole w h)
 
 -- a text laid to the front of a buffer, if it fits
-abbrev Laid : List ℕ → List ℕ → List ℕ → Type 0
+abbrev pub Laid : List ℕ → List ℕ → List ℕ → Type 0
 Laid t out out′ = out′ ≡ cond (leb (length t) (length out)) (t ++ drop (length t) out) out
 
 pub laid-whole : (t out : List ℕ) {out′ : List ℕ} → length t ≤ length out → out′ ≡ t ++ drop (length t) out → Laid t out out′
@@ -87,6 +93,31 @@ laid-fits t out h e = e ∙ rw (le-leb _ _ h)
 pub laid-over : (t out : List ℕ) {out′ : List ℕ} → length out < length t → Laid t out out′ → out′ ≡ out
 laid-over t out h e = e ∙ rw (lt-leb _ _ h)
 
+-- The first cause that holds is the one that is answered; of admitted values the room alone decides.
+module _ (k : Key) (v : Variant) (e : Entry) (room : ℕ) where
+  pub stage-flags : stageFlagsBad (k .stages) ≡ true → Refused StageFlags ≡ answerOf k v e room
+  unfolding answerOf
+  stage-flags s = rw s
+
+  pub variant-flags : stageFlagsBad (k .stages) ≡ false → variantFlagsBad v ≡ true → Refused VariantFlags ≡ answerOf k v e room
+  unfolding answerOf
+  variant-flags s f = rw (s, f)
+
+  pub entry-name : stageFlagsBad (k .stages) ≡ false → variantFlagsBad v ≡ false → entryGood e ≡ false → Refused EntryName ≡ answerOf k v e room
+  unfolding answerOf
+  entry-name s f n = rw (s, f, n)
+
+  pub no-room : Admitted k v e → room < length (textOf k v e) → Refused NoRoom ≡ answerOf k v e room
+  unfolding answerOf
+  no-room h l = rw (h .stageFlags, h .variantFlags, h .entryName, lt-ltb _ _ l)
+
+  pub with-room : Admitted k v e → length (textOf k v e) ≤ room → Text (emittedOf k v e) ≡ answerOf k v e room
+  unfolding answerOf
+  with-room h l = rw (h .stageFlags, h .variantFlags, h .entryName, le-ltb _ _ l)
+
+  pub numbered : {a : Answer} → a ≡ answerOf k v e room → answerNumber a ≡ emissionNumber k v e room
+  numbered h = ap answerNumber h ∙ number-of-answer k v e room
+
 pub accepted : (k : Key) (v : Variant) (e : Entry) (u : Survey) (at lookups warning : ℕ) → u ≡ surveyOf (k .stages) → at ≡ length (textOf k v e)
     → lookups ≡ lookupsOf (u .live) (active (k .stages)) → warning ≡ u .warning + cond (leb 9 (v .«alpha_func»)) 8 0
     → record { length = at; mask = u .mask; rows = u .rows; lookups = lookups; warning = warning } ≡ emittedOf k v e
@@ -94,6 +125,6 @@ unfolding surveyOf
 accepted k v e u at lookups warning hu ha hl hw = rw (hw, hl, ha, hu)
 
 pub demanded : (k : Key) (v : Variant) (e : Entry) (m : Emitted) (out out′ : List ℕ) → length (k .stages) ≤ 8 → entryGood e ≡ true → m ≡ emittedOf k v e
-    → out′ ≡ textOf k v e ++ drop (length (textOf k v e)) out → Demand3 (take (m .length) out′) m
+    → out′ ≡ textOf k v e ++ drop (length (textOf k v e)) out → Demand3 k (take (m .length) out′) m
 demanded k v e m out out′ l g hm ho =
     rw (hm, ho, take-at (textOf k v e) (drop (length (textOf k v e)) out) _ refl) (demand k v e l (subst T (sym g) tt))

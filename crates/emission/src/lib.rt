@@ -21,8 +21,9 @@ ghost use lib.ListN.{length, drop};
 ghost use Rattle.cascade.specs.Keys.{active};
 ghost use Rattle.cascade.specs.Reading.{lookupsOf};
 ghost use Rattle.cascade.specs.Survey.{surveyOf};
-ghost use Rattle.shader.specs.Results.{answerOf, bufferAfter, frontOf, textOf};
+ghost use Rattle.shader.specs.Results.{answerNumber, answerOf, bufferAfter, emissionNumber, frontOf, textOf};
 ghost use Rattle.shader.specs.Demand.{Demanded};
+ghost use Rattle.values.specs.Admitted.{Admitted};
 
 // An alpha function above 8 warns too.
 fn warning_of(stages: u8, alpha_func: u8) -> u8
@@ -54,21 +55,14 @@ fn put_text(out: &mut [u8], k: Key, v: Variant, e: Entry, u: Survey) -> Place
     w
 }
 
-// Writes the text of a key, a variant and an entry to the front of out; bytes behind it stay. A refusal leaves out as it was.
-pub fn emit(key: Key, variant: Variant, entry: Entry, out: &mut [u8]) -> Answer
+// Writes the text of values that are free of the causes 3, 5 and 6 to the front of out, without checking them again.
+pub fn emit_checked(key: Key, variant: Variant, entry: Entry, out: &mut [u8]) -> Answer
+    requires { ⌜ Admitted key variant entry ⌝ }
     ensures answer { λ r. ⌜ r ≡ answerOf key variant entry (length (now (out .entry))) ⌝ }
     ensures buffer { λ r. ⌜ now (out .exit) ≡ bufferAfter r (textOf key variant entry) (now (out .entry)) ⌝ }
-    ensures names { λ r. ⌜ Demanded r (now (out .exit)) ⌝ }
+    ensures names { λ r. ⌜ Demanded key r (now (out .exit)) ⌝ }
+    ensures number { λ r. ⌜ answerNumber r ≡ emissionNumber key variant entry (length (now (out .entry))) ⌝ }
 {
-    if admission::stage_flags_bad(key) {
-        return Answer::Refused(Refusal::StageFlags);
-    }
-    if admission::variant_flags_bad(variant) {
-        return Answer::Refused(Refusal::VariantFlags);
-    }
-    if !admission::entry_good(entry) {
-        return Answer::Refused(Refusal::EntryName);
-    }
     let u = survey(key);
     let written = put_text(out, key, variant, entry, u);
     if out.len() < written.at {
@@ -84,9 +78,39 @@ pub fn emit(key: Key, variant: Variant, entry: Entry, out: &mut [u8]) -> Answer
     })
 }
 
+// Writes the text of a key, a variant and an entry to the front of out; bytes behind it stay. A refusal leaves out as it was.
+pub fn emit(key: Key, variant: Variant, entry: Entry, out: &mut [u8]) -> Answer
+    ensures answer { λ r. ⌜ r ≡ answerOf key variant entry (length (now (out .entry))) ⌝ }
+    ensures buffer { λ r. ⌜ now (out .exit) ≡ bufferAfter r (textOf key variant entry) (now (out .entry)) ⌝ }
+    ensures names { λ r. ⌜ Demanded key r (now (out .exit)) ⌝ }
+    ensures number { λ r. ⌜ answerNumber r ≡ emissionNumber key variant entry (length (now (out .entry))) ⌝ }
+{
+    if admission::stage_flags_bad(key) {
+        return Answer::Refused(Refusal::StageFlags);
+    }
+    if admission::variant_flags_bad(variant) {
+        return Answer::Refused(Refusal::VariantFlags);
+    }
+    if !admission::entry_good(entry) {
+        return Answer::Refused(Refusal::EntryName);
+    }
+    emit_checked(key, variant, entry, out)
+}
+
+// The number of an answer: 0 for a text.
+pub fn number(answer: Answer) -> u8
+    ensures { λ r. ⌜ r ≡ answerNumber answer ⌝ }
+{
+    match answer {
+        Answer::Text(_) => 0,
+        Answer::Refused(refusal) => values::number(refusal),
+    }
+}
+
 // The written front of a buffer, for the length that emission answered; empty for a length beyond the buffer.
 pub fn front(buf: &mut [u8], len: usize) -> &mut [u8]
-    ensures { λ r. ⌜ now r ≡ frontOf (now (buf .entry)) len ⌝ }
+    ensures bytes { λ r. ⌜ now r ≡ frontOf (now (buf .entry)) len ⌝ }
+    ensures place { λ r. ⌜ r .ptr ≡ buf .entry .ptr ⌝ }
 {
     if len <= buf.len() {
         &mut buf[..len]

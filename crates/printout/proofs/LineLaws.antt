@@ -9,21 +9,21 @@ use lib.Dec.{ltb}
 use lib.ListN.{length, length-append}
 use Rattle.text.specs.Text.{Text, flat, _⊕_, digit, decimalOf}
 use Rattle.text.specs.Buffer.{Wrote}
-use Rattle.text.proofs.Laws.{whole, pick-true, pick-false}
+use Rattle.text.proofs.Laws.{whole, pick-true, pick-false, one-digit}
 use Rattle.values.specs.declared.Emitted.{Emitted}
 use Rattle.printout.specs.Program.{emitText, emitLine, endText, endLine, refusedText, refusedLine}
 use Rattle.printout.specs.Steps.{lineAfter}
 
-pub digits-one : {l l′ : List ℕ} {a a′ : ℕ} (d n : ℕ) → (d ≡ 0 → ⊥) → n < 10 → Wrote l a l′ a′ (digit n) → Wrote l a l′ a′ (decimalOf d n)
+pub digits-one : {l l′ : List ℕ} {a a′ : ℕ} (d n : ℕ) → (d ≡ 0 → ⊥) → n < 10 → Wrote l a l′ a′ (digit (n % 10)) → Wrote l a l′ a′ (decimalOf d n)
 unfolding decimalOf
 digits-one zero n f h w = absurd (f refl)
-digits-one (suc d) n f h w = pick-true (lt-ltb _ _ h) w
+digits-one (suc d) n f h w = pick-true (lt-ltb _ _ h) (one-digit n h w)
 
-pub digits-more : {l l′ : List ℕ} {a a′ : ℕ} (d n : ℕ) → (d ≡ 0 → ⊥) → 10 ≤ n → Wrote l a l′ a′ (decimalOf (d - 1) (n / 10) ⊕ digit (n % 10)) →
+pub digits-more : {l l′ : List ℕ} {a a′ : ℕ} (d n : ℕ) → (d ≡ 0 → ⊥) → 10 ≤ n → Wrote l a l′ a′ (decimalOf (d - 1) (n / 10) ⊕ digit (n % 10 % 10)) →
     Wrote l a l′ a′ (decimalOf d n)
 unfolding decimalOf
 digits-more zero n f h w = absurd (f refl)
-digits-more (suc d) n f h w = let e : suc d - 1 ≡ d = omega arith in pick-false (le-ltb _ _ h) (rw e at w)
+digits-more (suc d) n f h w = let e : suc d - 1 ≡ d = omega arith in let m : n % 10 % 10 ≡ n % 10 = omega arith in pick-false (le-ltb _ _ h) (rw (e, m) at w)
 
 one-more : (b : Bool) (d m k : ℕ) (x : List ℕ) → length x ≤ d → length (cond b (m ∷ []) (x ++ (k ∷ []))) ≤ suc d
 one-more true d m k x h = omega arith

@@ -91,7 +91,7 @@ abbrev pub applied : Held → List ℕ → ℕ → Applied
 applied h b room = record { answer = applyAnswer h b room; held = heldAfter (applyAnswer h b room) (readRecord b .found) h }
 
 -- demand 3 of an accepted emit record, and of the bytes that the buffer then holds, is that of emission
-abbrev pub Demanded : ApplyAnswer → List ℕ → Type 0
-Demanded (Replaced n) out = Unit {0}
-Demanded (Text n e) out = demand.Demanded (emission-answer.Text e) out
-Demanded (Refused c) out = Unit {0}
+abbrev pub Demanded : Held → ApplyAnswer → List ℕ → Type 0
+Demanded h (Replaced n) out = Unit {0}
+Demanded h (Text n e) out = demand.Demanded (h .key) (emission-answer.Text e) out
+Demanded h (Refused c) out = Unit {0}

@@ -116,7 +116,7 @@ fn holds_all(held: Held) -> bool
 pub fn emit_held(held: Held, n: usize, text: &mut [u8]) -> ApplyAnswer
     ensures answer { λ r. ⌜ r ≡ applyAs Kind.Emit n held (length (now (text .entry))) ⌝ }
     ensures buffer { λ r. ⌜ now (text .exit) ≡ textAfter r held (now (text .entry)) ⌝ }
-    ensures names { λ r. ⌜ Demanded r (now (text .exit)) ⌝ }
+    ensures names { λ r. ⌜ Demanded held r (now (text .exit)) ⌝ }
 {
     let key = held.key;
     let variant = held.variant;
@@ -134,7 +134,7 @@ pub fn emit_held(held: Held, n: usize, text: &mut [u8]) -> ApplyAnswer
 pub fn apply(held: Held, bytes: &[u8], text: &mut [u8]) -> Applied
     ensures answer { λ r. ⌜ r ≡ applied held (now (bytes .entry)) (length (now (text .entry))) ⌝ }
     ensures buffer { λ r. ⌜ now (text .exit) ≡ textAfter (r .answer) held (now (text .entry)) ⌝ }
-    ensures names { λ r. ⌜ Demanded (r .answer) (now (text .exit)) ⌝ }
+    ensures names { λ r. ⌜ Demanded held (r .answer) (now (text .exit)) ⌝ }
 {
     let reading = read(bytes);
     let answer = reading.answer;

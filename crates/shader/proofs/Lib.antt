@@ -1,3 +1,4 @@
 pub mod Names
+pub mod Numbers
 pub mod Length
 pub mod Examples

@@ -1,13 +1,16 @@
--- Demand 3: what the text of an accepted emission says of its names, and what its result says of the text.
--- 01: "Lookups in the result are the emitter's own count, one for each lookup that it wrote." That count is `lookupsOf` (Results.antt); here it is
--- held to the text and to the mask.
+-- Demand 3: what the text of an accepted emission says of its names, and what its result says of the text and of the key.
+-- 01: "Lookups in the result are the emitter's own count, one for each lookup that it wrote." Here that count is held to the text, to the reading
+-- rule and to the mask.
 use Prim.Native.Nat.{ℕ, zero, suc, _+_, _/_, _%_, _≤_, _<_}
 use mathlib.Core.Bool.{Bool, _&&_, cond}
 use mathlib.Core.Path.{_≡_}
 use mathlib.Core.List.{List, [], _∷_, _++_}
 use lib.Dec.{eqb}
 use lib.ListN.{take}
+use Rattle.cascade.specs.Keys.{active}
+use Rattle.cascade.specs.Reading.{live, lookupsOf}
 use Rattle.shader.specs.Names.{Name, name, Occurrence, declaration, usage, row, occurrences}
+use Rattle.values.specs.declared.Key.{Key}
 use Rattle.values.specs.declared.Emitted.{Emitted}
 use Rattle.values.specs.declared.Answer.{Answer}
 use Rattle.values.specs.declared.Answer.the-variants.{Text, Refused}
@@ -38,7 +41,11 @@ abbrev pub setBits : ℕ → ℕ → ℕ
 setBits zero m = 0
 setBits (suc n) m = m % 2 + setBits n (m / 2)
 
-pub record Demand3 (text : List ℕ) (m : Emitted) : Type 0 where
+-- how many active stages the reading rule marks
+abbrev pub markedStages : Key → ℕ
+markedStages k = lookupsOf (live (active (k .stages))) (active (k .stages))
+
+pub record Demand3 (key : Key) (text : List ℕ) (m : Emitted) : Type 0 where
   -- before each use of a listed name stands exactly one declaration of it
   pub declaredBefore : (n : Name) (before behind : List Occurrence) → occurrences text ≡ before ++ (usage n ∷ behind) → declared n before ≡ 1
   -- no listed name is declared twice
@@ -47,10 +54,12 @@ pub record Demand3 (text : List ℕ) (m : Emitted) : Type 0 where
   pub rowsCounted : (k : ℕ) (before behind : List Occurrence) → occurrences text ≡ before ++ (row k ∷ behind) → k < m .rows
   -- the lookups are the declarations of t0 to t7
   pub lookupsWritten : texels (occurrences text) ≡ m .lookups
+  -- they are the stages that the reading rule marks
+  pub lookupsMarked : markedStages key ≡ m .lookups
   -- and no more than the mask's bits
   pub lookupsMasked : m .lookups ≤ setBits 8 (m .mask)
 
 -- demand 3 of an answer and the bytes that the buffer then holds: a refusal wrote no text
-abbrev pub Demanded : Answer → List ℕ → Type 0
-Demanded (Refused r) out = Unit {0}
-Demanded (Text m) out = Demand3 (take (m .length) out) m
+abbrev pub Demanded : Key → Answer → List ℕ → Type 0
+Demanded key (Refused r) out = Unit {0}
+Demanded key (Text m) out = Demand3 key (take (m .length) out) m

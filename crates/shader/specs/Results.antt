@@ -1,22 +1,21 @@
 -- What emission from values answers, and what it leaves in the lent buffer.
 use Prim.Native.Nat.{ℕ, _+_}
-use mathlib.Core.Bool.{Bool, true, false, not, _&&_, _||_, cond}
-use mathlib.Core.List.{List, [], _∷_, _++_}
-use lib.Dec.{eqb, leb, ltb}
+use mathlib.Core.Bool.{not, cond}
+use mathlib.Core.List.{List, [], _++_}
+use lib.Dec.{leb, ltb}
 use lib.ListN.{length, take, drop}
 use Rattle.text.specs.Text.{flat}
 use Rattle.cascade.specs.Keys.{active, maskOf, rowsOf}
 use Rattle.cascade.specs.Reading.{live, lookupsOf}
 use Rattle.cascade.specs.Warnings.{stageWarnings}
-use Rattle.values.specs.declared.Stage.{Stage}
 use Rattle.values.specs.declared.Key.{Key}
+use Rattle.values.specs.Refusals.{numberOf}
 use Rattle.values.specs.Flags.{stageFlagsBad, variantFlagsBad}
 use Rattle.values.specs.Entries.{entryGood}
 use Rattle.shader.specs.Whole.{wholeText}
 use Rattle.values.specs.declared.Variant.{Variant}
 use Rattle.values.specs.declared.Entry.{Entry}
 use Rattle.values.specs.declared.Emitted.{Emitted}
-use Rattle.values.specs.declared.Refusal.{Refusal}
 use Rattle.values.specs.declared.Refusal.the-variants.{StageFlags, VariantFlags, EntryName, NoRoom}
 use Rattle.values.specs.declared.Answer.{Answer}
 use Rattle.values.specs.declared.Answer.the-variants.{Text, Refused}
@@ -46,6 +45,20 @@ answerOf k v e room =
     (cond (variantFlagsBad v) (Refused VariantFlags)
     (cond (not (entryGood e)) (Refused EntryName)
     (cond (ltb room (length (textOf k v e))) (Refused NoRoom) (Text (emittedOf k v e)))))
+
+-- the number of an answer: 0 for a text
+abbrev pub answerNumber : Answer → ℕ
+answerNumber (Text m) = 0
+answerNumber (Refused c) = numberOf c
+
+-- the number that 01's table gives: 3 "a stage flag bit 2 to 7", 5 "variant flag bit 6 or 7", 6 for the entry, 8 "text longer than the buffer", in
+-- that order; 0 where none of them holds
+unfoldable pub emissionNumber : Key → Variant → Entry → ℕ → ℕ
+emissionNumber k v e room =
+    cond (stageFlagsBad (k .stages)) 3
+    (cond (variantFlagsBad v) 5
+    (cond (not (entryGood e)) 6
+    (cond (ltb room (length (textOf k v e))) 8 0)))
 
 -- 01: "The text begins the lent buffer; bytes behind it stay." A refusal leaves all.
 abbrev pub bufferAfter : Answer → List ℕ → List ℕ → List ℕ

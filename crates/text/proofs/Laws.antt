@@ -1,8 +1,8 @@
 -- The laws of writing: one text behind another is the two joined; a text that fits is written whole; which of two texts; a text's length.
-use Prim.Native.Nat.{ℕ, zero, suc, _+_, _<_, _≤_}
+use Prim.Native.Nat.{ℕ, zero, suc, _+_, _%_, _<_, _≤_}
 use mathlib.Core.Bool.{Bool, true, false, cond}
 use mathlib.Core.Path.{_≡_, refl, ap, sym, subst, _∙_}
-use mathlib.Core.List.{List, [], _∷_, _++_, append-assoc, append-nil}
+use mathlib.Core.List.{List, [], _∷_, _++_}
 use mathlib.Core.Logic.{by-cases}
 use native.Mathlib.Omega.{arith}
 use native.Mathlib.Nat.{add-zero, zero-add}
@@ -11,8 +11,8 @@ use borrow.Author.Tests.{ne-eqb, le-leb, lt-leb, le-ltb, lt-ltb}
 use lib.Dec.{eqb, eqb→eq}
 use lib.ListN.{length, drop, getD, set, length-append}
 use lib.Seq.{sets, sets-eq}
-use Rattle.text.specs.Text.{Text, raw, _⊕_, pick, flat, size}
-use Rattle.text.specs.Marks.{filled, marked}
+use Rattle.text.specs.Text.{Text, raw, _⊕_, pick, flat, size, digit}
+use Rattle.text.specs.Marks.{filledByte, filled}
 use Rattle.text.specs.Buffer.{Placed, Wrote}
 
 pub flat-length : (t : Text) → length (flat t) ≡ size t
@@ -26,23 +26,23 @@ pub sets-append : (s t l : List ℕ) (i : ℕ) → sets l i (s ++ t) ≡ sets (s
 sets-append [] t l i = rw add-zero
 sets-append (x ∷ s) t l i = sets-append s t (set l i x) (suc i) ∙ ap (λ (k : ℕ). sets (sets (set l i x) (suc i) s) k t) (omega arith)
 
--- a text filled, byte by byte
-pub length-marked : (m : ℕ) (s : List ℕ) → length (marked m s) ≡ length s
-length-marked m [] = refl
-length-marked m (b ∷ s) = ap suc (length-marked m s)
+-- a literal filled, byte by byte
+pub length-filled : (d : ℕ) (s : List ℕ) → length (filled d s) ≡ length s
+length-filled d [] = refl
+length-filled d (b ∷ s) = ap suc (length-filled d s)
 
-pub getD-marked : (m : ℕ) (s : List ℕ) (i : ℕ) → i < length s → getD (marked m s) i 0 ≡ filled m (getD s i 0)
-getD-marked m (b ∷ s) zero h = refl
-getD-marked m (b ∷ s) (suc i) h = getD-marked m s i (omega arith)
+pub getD-filled : (d : ℕ) (s : List ℕ) (i : ℕ) → i < length s → getD (filled d s) i 0 ≡ filledByte d (getD s i 0)
+getD-filled d (b ∷ s) zero h = refl
+getD-filled d (b ∷ s) (suc i) h = getD-filled d s i (omega arith)
 
--- a mark may stand for itself
-unmarked-byte : (b : ℕ) (t : Bool) → eqb b 35 ≡ t → filled 35 b ≡ b
-unmarked-byte b true e = rw e (sym (eqb→eq b 35 (rw e tt)))
-unmarked-byte b false e = rw e
+-- a mark filled with itself is left
+kept-byte : (b : ℕ) (t : Bool) → eqb b 35 ≡ t → filledByte 35 b ≡ b
+kept-byte b true e = rw e (sym (eqb→eq b 35 (rw e tt)))
+kept-byte b false e = rw e
 
-pub unmarked : (s : List ℕ) → marked 35 s ≡ s
-unmarked [] = refl
-unmarked (b ∷ s) = rw (unmarked-byte b _ refl, unmarked s)
+pub kept-marks : (s : List ℕ) → filled 35 s ≡ s
+kept-marks [] = refl
+kept-marks (b ∷ s) = rw (kept-byte b _ refl, kept-marks s)
 
 -- no bytes
 pub nothing : (l : List ℕ) (at : ℕ) → Wrote l at l at (raw [])
@@ -117,6 +117,10 @@ case t x y l l′ a a′ e w = rw e w
 -- a test of a number that is known
 pub eqb-at : (x m n : ℕ) (b : Bool) → x ≡ m → eqb m n ≡ b → eqb x n ≡ b
 eqb-at x m n b e f = rw e f
+
+-- the last digit of a number below ten is the number
+pub one-digit : {l l′ : List ℕ} {a a′ : ℕ} (n : ℕ) → n < 10 → Wrote l a l′ a′ (digit (n % 10)) → Wrote l a l′ a′ (digit n)
+one-digit n h w = let e : n % 10 ≡ n = omega arith in rw e at w
 
 -- what `search` is handed at the return of a function that writes text
 pub ruleset texts = (_⨾_, nothing, pick-true, pick-false, eqb-at, ne-eqb, le-leb, lt-leb, le-ltb, lt-ltb)

@@ -3,7 +3,7 @@
 use Prim.Native.Nat.{ℕ}
 use Prim.Native.Char.{code}
 use Prim.Native.String.{String, [] as []ˢ, _∷_ as _∷ˢ_}
-use mathlib.Core.Bool.{Bool, true, false, cond, _&&_, _||_}
+use mathlib.Core.Bool.{Bool, true, false, cond, _&&_}
 use mathlib.Core.List.{List, [], _∷_, _++_}
 use lib.Dec.{eqb}
 use Rattle.text.specs.Text.{Text, raw, _⊕_, none, bytes}
@@ -52,12 +52,3 @@ fill f (p ∷ (q ∷ r)) = pieceText f p ⊕ fill f (q ∷ r)
 
 abbrev pub format : String → List Slot → Text
 format s f = fill f (cut s)
-
--- a template names a slot
-abbrev pub isSlot : String → Piece → Bool
-isSlot name (words w) = false
-isSlot name (slot w) = same (bytes name) w
-
-abbrev pub mentions : String → List Piece → Bool
-mentions name [] = false
-mentions name (p ∷ r) = isSlot name p || mentions name r

@@ -1,3 +1,4 @@
 pub mod Refusals
 pub mod Flags
 pub mod Entries
+pub mod Admitted

@@ -1,3 +1,4 @@
+-- Whether all three values are held, and then what emission answered, say which case of `applyAs` holds for an emit record.
 use mathlib.Core.Path.{refl}
 use borrow.Author.Tests.{not-true, not-false}
 use Rattle.records.proofs.Cases.{emit-early, emit-text, emit-refused}
@@ -10,15 +11,19 @@ returns c = (emit-early _ _ _ (c .before .holds-all .ensures) (not-true _ (c .if
 
 returns-2 : tie.Need-returns-2
 returns-2 c =
-    let e = c .before .before .before .before .before .emit .ensures in
+    let s2 = c .before .before .before .before .before in
+    let s1 = s2 .before .before in
+    let e = s2 .emit .ensures in
     let g = c .before .emitted .given .1 in
-    (emit-text _ _ _ (c .before .before .before .before .before .before .before .before .holds-all .ensures) (not-false _ (c .before .before .before .before .before .before .before .if1 .left)) (e .0) g, (rw g at (e .1 .0), rw g at (e .1 .1)))
+    (emit-text _ _ _ (s1 .before .holds-all .ensures) (not-false _ (s1 .if1 .left)) (e .0) g, (rw g at (e .1 .0), rw g at (e .1 .1)))
 
 returns-3 : tie.Need-returns-3
 returns-3 c =
-    let e = c .before .before .before .before .before .before .emit .ensures in
-    let g = c .before .before .refusal .given .1 in
-    (emit-refused _ _ _ (c .before .before .before .before .before .before .before .before .before .holds-all .ensures) (not-false _ (c .before .before .before .before .before .before .before .before .if1 .left)) (e .0) g (c .refusal-of .ensures), (rw g at (e .1 .0), tt))
+    let s2 = c .before .before .before .before .before in
+    let s1 = s2 .before .before in
+    let e = s2 .emit .ensures in
+    let g = c .before .refusal .given .1 in
+    (emit-refused _ _ _ (s1 .before .holds-all .ensures) (not-false _ (s1 .if1 .left)) (e .0) g, (rw g at (e .1 .0), tt))
 
 pub emit-held-spec : {M : Type 1} → statement M
 emit-held-spec =
@@ -29,7 +34,6 @@ emit-held-spec =
     (λ c κs. tt)
     (λ c. search needs)
     (λ c. search needs)
-    (λ c κs. tt)
     (λ c. search needs)
     returns-2
     (λ c. search needs)

@@ -9,7 +9,8 @@ use native.Mathlib.Omega.{arith}
 use lib.Dec.{T, eqb, leb, leb→le, nleb→lt, lit<, eqb→eq}
 use borrow.Author.Tests.{ne-eqb, lt-leb}
 use Rattle.text.specs.Text.{Text, none, bytes}
-use Rattle.text.specs.Format.{Piece, words, slot, cut, Slot, _≔_, same, pieceText, fill, isSlot, mentions}
+use Rattle.text.specs.Format.{Piece, words, slot, cut, Slot, _≔_, same, pieceText, fill}
+use Rattle.text.proofs.Slots.{isSlot, mentions}
 use Rattle.combiners.specs.Codes.{blendFactorAlpha}
 use Rattle.combiners.specs.Arguments.{texelName}
 use Rattle.combiners.specs.Combiners.{opCodes, look, opOf, template, opText, hasText, keepsFirst, keepsSecond, readsOwnTexel}

@@ -93,13 +93,14 @@ module _ (k : Key) (v : Variant) (ss : List Stage) (l : length ss ≤ 8) (enable
       rw append-nil at (whole .on [] refl)
 
 -- Demand 3, for every key of at most eight stages, every variant and every admitted entry.
-pub demand : (k : Key) (v : Variant) (e : Entry) → length (k .stages) ≤ 8 → T (entryGood e) → Demand3 (textOf k v e) (emittedOf k v e)
+pub demand : (k : Key) (v : Variant) (e : Entry) → length (k .stages) ≤ 8 → T (entryGood e) → Demand3 k (textOf k v e) (emittedOf k v e)
 demand k v e l t =
     record {
       declaredBefore = checked-before A (occurrences (textOf k v e)) holds;
       declaredOnce = checked-once A (occurrences (textOf k v e)) holds;
       rowsCounted = checked-rows A (occurrences (textOf k v e)) holds;
       lookupsWritten = checked-lookups A (occurrences (textOf k v e)) holds;
+      lookupsMarked = refl;
       lookupsMasked = lookups-masked (live ss) 8 ss short (active-enabled (k .stages));
     }
   where

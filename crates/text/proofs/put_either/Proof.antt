@@ -1,5 +1,6 @@
-use Rattle.text.proofs.Laws.{first-piece, second-piece}
+-- The test picks the piece that is written.
 use borrow.Author.Needs.{needs}
+use Rattle.text.proofs.Laws.{first-piece, second-piece}
 use Rattle.text.proofs.put_either.Statement.{statement}
 use Rattle.text.proofs.put_either.Tie as tie
 

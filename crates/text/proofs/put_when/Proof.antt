@@ -1,5 +1,6 @@
-use Rattle.text.proofs.Laws.{first-piece, second-piece, no-piece}
+-- The test picks the piece, or none.
 use borrow.Author.Needs.{needs}
+use Rattle.text.proofs.Laws.{first-piece, second-piece, no-piece}
 use Rattle.text.proofs.put_when.Statement.{statement}
 use Rattle.text.proofs.put_when.Tie as tie
 

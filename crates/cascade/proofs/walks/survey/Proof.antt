@@ -18,4 +18,4 @@ survey-spec =
     (λ c κs. tt)
     (λ c. search needs)
     (λ c. search needs)
-    (λ c. surveyed _ _ _ _ _ _ _ _ (c .before .before .before .before .before .before .active-count .ensures) (c .before .before .before .before .before .facts .ensures) (c .before .before .before .before .marks .ensures) (c .before .before .before .rows .ensures) (c .before .before .flag .ensures .0) (c .before .flag2 .ensures .0) (c .flag3 .ensures .0)))
+    (λ c. surveyed _ _ _ _ _ _ _ _ (c .before .before .before .before .before .before .active-count .ensures) (c .before .before .before .before .before .facts-of .ensures) (c .before .before .before .before .marks-from .ensures) (c .before .before .before .rows .ensures) (c .before .before .flag .ensures .0) (c .before .flag2 .ensures .0) (c .flag3 .ensures .0)))

@@ -96,7 +96,7 @@ put-digits-put-digit-requires-2 : (t : ℕ) → put-digits-lts.Need-put-digit-re
   put-digits-below t,
   put-digits.Post,
 ) (put-digits-at t) put-digits.Post
-put-digits-put-digit-requires-2 t c κs = omega arith
+put-digits-put-digit-requires-2 t c κs = search needs
 
 put-digits-same-length-2 : (t : ℕ) → put-digits-lts.Need-same-length-2 (
   put-digit-reads.Asked,
