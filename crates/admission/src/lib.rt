@@ -1,9 +1,11 @@
 //! The causes for which values are refused: stage flags, variant flags, the entry.
 pub mod entry;
+pub mod words;
 
 pub use entry::entry_good;
 use values::Key;
 use values::Variant;
+pub use words::entry_reserved;
 ghost use mathlib.Core.Path.{_≡_};
 ghost use mathlib.Core.Bool.{_&&_};
 ghost use lib.Dec.{leb};
