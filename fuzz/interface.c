@@ -1,10 +1,11 @@
 /* The C interface on any bytes: what every call must keep to, whatever it is given.
  *
- * The archive is machine code without a sanitizer's checks, so these alone would see only what goes through memcpy. Each lent buffer therefore
- * ends, or begins, at a page that may not be touched, and what is left of its own pages holds a pattern. Every input is gone through both ways.
+ * The archive is machine code without a sanitizer's checks, so these alone would see only what goes through memcpy. Each lent buffer and struct
+ * therefore ends, or begins, at a page that may not be touched, and what is left of its own pages holds a pattern. Every input is gone through both
+ * ways. After each call every byte of these pages is compared with what must stand there, the structs for reports among them.
  *
- * An input: the length of the text's buffer (two bytes, low byte first), of the written record's, a byte that alters lengths, what is held (113
- * bytes), and records.
+ * An input: the length of the text's buffer (two bytes, low byte first), of the written record's, what is held (113 bytes), and records. The key, the
+ * variant and the entry for yuzuknoll_emit are the bytes of what is held behind the kinds.
  */
 #define _GNU_SOURCE
 #include <stdio.h>
@@ -17,19 +18,19 @@
 #define PAGE 4096
 #define MOST (5 * PAGE)
 #define PATTERN 0xa5
-#define HEAD 4
+#define HEAD 3
 #define FRONT (HEAD + YUZUKNOLL_HELD_LENGTH)
 
-enum { KEY, VARIANT, ENTRY, BYTES, HELD, TEXT, BUFFERS };
+enum { KEY, VARIANT, ENTRY, BYTES, HELD, TEXT, REPORT, BUFFERS };
 
 /* What libFuzzer is told of the answers, since it sees no branch of the archive. */
 __attribute__((section("__libfuzzer_extra_counters"), used)) static uint8_t seen[1 << 12];
 
-/* A lent buffer in its pages, and what these must hold after a call. */
+/* Something lent, in its pages, and what these must hold after a call. */
 struct lent {
     uint8_t *pages;
     size_t size;
-    uint8_t *bytes;
+    void *bytes;
     size_t length;
     uint8_t expected[MOST];
 };
@@ -55,37 +56,30 @@ static void make_pages(void) {
 }
 
 /* Lends a buffer of a length that holds some bytes, and the pattern behind them. */
-static struct lent *lend(int which, const uint8_t *bytes, size_t count, size_t length) {
+static struct lent *lend(int which, const void *bytes, size_t count, size_t length) {
     struct lent *one = &lent[which];
     memset(one->pages, PATTERN, one->size);
     one->length = length;
     one->bytes = at_front ? one->pages : one->pages + one->size - length;
-    if (count > length)
-        count = length;
     if (count != 0)
         memcpy(one->bytes, bytes, count);
     memcpy(one->expected, one->pages, one->size);
     return one;
 }
 
+/* Lends a struct or a buffer for what a call writes. */
+static struct lent *lend_room(int which, size_t length) { return lend(which, NULL, 0, length); }
+
 /* The next call must write these bytes at a place of the buffer. */
-static void expect(struct lent *one, size_t at, const uint8_t *bytes, size_t count) {
-    memcpy(one->expected + (one->bytes - one->pages) + at, bytes, count);
+static void expect(struct lent *one, size_t at, const void *bytes, size_t count) {
+    memcpy(one->expected + ((uint8_t *)one->bytes - one->pages) + at, bytes, count);
 }
 
 static void as_expected(struct lent *one, const char *what) { must(memcmp(one->pages, one->expected, one->size) == 0, what); }
 
-static void note(unsigned what, unsigned value) { seen[what << 8 | (value & 255)] = 1; }
+static void note(unsigned what, uint64_t value) { seen[what << 8 | (value & 255)] = 1; }
 
-static void note_emitted(uint64_t answer) {
-    note(5, yuzuknoll_mask(answer));
-    note(6, yuzuknoll_rows(answer));
-    note(7, yuzuknoll_lookups(answer));
-    note(8, yuzuknoll_warning(answer));
-    note(9, (unsigned)(yuzuknoll_length(answer) >> 5));
-}
-
-static int count_bits(unsigned mask) {
+static int count_bits(uint64_t mask) {
     int bits = 0;
     for (; mask != 0; mask >>= 1)
         bits += mask & 1;
@@ -93,162 +87,193 @@ static int count_bits(unsigned mask) {
 }
 
 /* What is said of every accepted emission, and of its text. */
-static void check_emitted(uint64_t answer, const uint8_t *text, size_t room) {
+static void check_emitted(const yuzuknoll_result *result, const uint8_t *text, size_t room) {
     static const char front[] = "#include <metal_stdlib>\n", back[] = ";\n}\n";
-    size_t length = yuzuknoll_length(answer), ends = sizeof back - 1;
+    size_t length = result->length, ends = sizeof back - 1;
     must(length <= room && length <= YUZUKNOLL_TEXT_LENGTH, "a text longer than its buffer");
     must(length > sizeof front + ends, "a text that is too short");
     must(memcmp(text, front, sizeof front - 1) == 0 && memcmp(text + length - ends, back, ends) == 0, "no whole text");
     for (size_t i = 0; i < length; i++)
         must(text[i] == '\n' || (text[i] >= ' ' && text[i] <= '~'), "a byte that is no text");
-    must(yuzuknoll_rows(answer) <= 9 && yuzuknoll_warning(answer) <= 15, "rows or warning above their bound");
-    must((int)yuzuknoll_lookups(answer) <= count_bits(yuzuknoll_mask(answer)), "more lookups than textures");
-    note_emitted(answer);
+    must(result->mask <= 255 && result->rows <= 9 && result->warning <= 15, "mask, rows or warning above their bound");
+    must((int)result->lookups <= count_bits(result->mask), "more lookups than textures");
+    note(5, result->mask);
+    note(6, result->rows);
+    note(7, result->lookups);
+    note(8, result->warning);
+    note(9, result->length >> 5);
 }
 
-/* yuzuknoll_read, whose answer is what the others are held to. */
-static uint64_t check_read(struct lent *bytes) {
-    static const size_t lengths[] = {YUZUKNOLL_KEY_LENGTH, YUZUKNOLL_VARIANT_LENGTH, YUZUKNOLL_ENTRY_LENGTH, YUZUKNOLL_EMIT_LENGTH};
-    uint64_t answer = yuzuknoll_read(bytes->bytes, bytes->length);
-    as_expected(bytes, "read: a byte was written");
-    if (yuzuknoll_refusal(answer) != YUZUKNOLL_ACCEPTED) {
-        must(answer <= YUZUKNOLL_ENTRY, "read: a bit beside the refusal");
-    } else {
-        unsigned kind = yuzuknoll_kind(answer);
-        must(answer >> 24 == 0, "read: a bit above the length");
-        must(kind >= YUZUKNOLL_KIND_KEY && kind <= YUZUKNOLL_KIND_EMIT && kind == bytes->bytes[0], "read: another kind");
-        must(yuzuknoll_record_length(answer) == lengths[kind - 1] && lengths[kind - 1] <= bytes->length, "read: another length");
+/* yuzuknoll_read, to which the other calls are held. */
+static uint64_t check_read(struct lent *bytes, yuzuknoll_record *record) {
+    static const size_t lengths[] = {YUZUKNOLL_KEY_RECORD_LENGTH, YUZUKNOLL_VARIANT_RECORD_LENGTH, YUZUKNOLL_ENTRY_RECORD_LENGTH,
+                                     YUZUKNOLL_EMIT_RECORD_LENGTH};
+    struct lent *report = lend_room(REPORT, sizeof *record);
+    uint64_t refusal = yuzuknoll_read(bytes->bytes, bytes->length, report->bytes);
+    must(refusal <= YUZUKNOLL_REFUSED_ENTRY_NAME, "read: no refusal of it");
+    if (refusal == YUZUKNOLL_ACCEPTED) {
+        memcpy(record, report->bytes, sizeof *record);
+        must(record->kind >= YUZUKNOLL_KIND_KEY && record->kind <= YUZUKNOLL_KIND_EMIT, "read: no kind");
+        must(record->kind == *(uint8_t *)bytes->bytes, "read: another kind");
+        must(record->taken == lengths[record->kind - 1] && record->taken <= bytes->length, "read: another length");
+        expect(report, 0, record, sizeof *record);
+        note(2, record->kind);
     }
-    note(1, yuzuknoll_refusal(answer));
-    note(2, yuzuknoll_kind(answer));
-    return answer;
+    as_expected(report, "read: the report of a refusal, or bytes beside it");
+    as_expected(bytes, "read: the record was written");
+    note(1, refusal);
+    return refusal;
 }
 
-static void check_write(struct lent *bytes, uint64_t read, size_t room) {
-    struct lent *out = lend(TEXT, NULL, 0, room);
-    size_t length = yuzuknoll_record_length(read);
+static void check_write(struct lent *bytes, uint64_t read, const yuzuknoll_record *record, size_t room) {
+    struct lent *out = lend_room(TEXT, room), *report = lend_room(REPORT, sizeof *record);
     uint64_t expected = read;
-    if (yuzuknoll_refusal(read) == YUZUKNOLL_ACCEPTED) {
-        if (length <= room)
-            expect(out, 0, bytes->bytes, length);
-        else
-            expected = YUZUKNOLL_TEXT_TOO_LONG;
+    if (read == YUZUKNOLL_ACCEPTED && record->taken > room) {
+        expected = YUZUKNOLL_REFUSED_NO_ROOM;
+    } else if (read == YUZUKNOLL_ACCEPTED) {
+        expect(out, 0, bytes->bytes, record->taken);
+        expect(report, 0, record, sizeof *record);
     }
-    must(yuzuknoll_write(bytes->bytes, bytes->length, out->bytes, room) == expected, "write: another answer");
+    must(yuzuknoll_write(bytes->bytes, bytes->length, out->bytes, room, report->bytes) == expected, "write: another answer");
     as_expected(bytes, "write: the record was written");
     as_expected(out, "write: another byte of the buffer");
+    as_expected(report, "write: another report");
 }
 
-/* yuzuknoll_emit on three parts of any length. Its text is left in the buffer. */
-static uint64_t check_emit(struct lent *key, struct lent *variant, struct lent *entry, struct lent *out) {
-    uint64_t answer =
-        yuzuknoll_emit(key->bytes, key->length, variant->bytes, variant->length, entry->bytes, entry->length, out->bytes, out->length);
-    unsigned refusal = yuzuknoll_refusal(answer);
+/* What yuzuknoll_read says of the body of a record of a kind. */
+static uint64_t refusal_of(uint8_t kind, const struct lent *body) {
+    uint8_t record[YUZUKNOLL_KEY_RECORD_LENGTH] = {kind};
+    yuzuknoll_record report;
+    memcpy(record + 1, body->bytes, body->length);
+    return yuzuknoll_read(record, 1 + body->length, &report);
+}
+
+/* What yuzuknoll_emit must answer where there is room for every text. */
+static uint64_t refusal_of_values(const struct lent *key, const struct lent *variant, const struct lent *entry) {
+    uint64_t refusal = refusal_of(YUZUKNOLL_KIND_KEY, key);
+    if (refusal == YUZUKNOLL_ACCEPTED)
+        refusal = refusal_of(YUZUKNOLL_KIND_VARIANT, variant);
+    if (refusal == YUZUKNOLL_ACCEPTED)
+        refusal = refusal_of(YUZUKNOLL_KIND_ENTRY, entry);
+    return refusal;
+}
+
+/* yuzuknoll_emit on structs of any bytes. Its text is left in the buffer. */
+static uint64_t check_emit(struct lent *key, struct lent *variant, struct lent *entry, size_t room, yuzuknoll_result *result) {
+    struct lent *out = lend_room(TEXT, room), *report = lend_room(REPORT, sizeof *result);
+    uint64_t expected = refusal_of_values(key, variant, entry);
+    uint64_t refusal = yuzuknoll_emit(key->bytes, variant->bytes, entry->bytes, out->bytes, room, report->bytes);
+    if (refusal == YUZUKNOLL_ACCEPTED) {
+        memcpy(result, report->bytes, sizeof *result);
+        check_emitted(result, out->bytes, room);
+        expect(out, 0, out->bytes, result->length);
+        expect(report, 0, result, sizeof *result);
+    } else if (refusal == YUZUKNOLL_REFUSED_NO_ROOM && expected == YUZUKNOLL_ACCEPTED) {
+        must(room < YUZUKNOLL_TEXT_LENGTH, "emit: no room for a text in a buffer for all");
+        expected = refusal;
+    }
+    must(refusal == expected, "emit: another answer than the records of its values have");
     as_expected(key, "emit: the key was written");
     as_expected(variant, "emit: the variant was written");
     as_expected(entry, "emit: the entry was written");
-    note(3, refusal);
-    if (refusal == YUZUKNOLL_ACCEPTED) {
-        must(answer >> 56 == 0, "emit: a bit above the length");
-        check_emitted(answer, out->bytes, out->length);
-        expect(out, 0, out->bytes, yuzuknoll_length(answer));
-    } else {
-        must(answer <= YUZUKNOLL_TEXT_TOO_LONG && refusal != YUZUKNOLL_EMIT_TOO_EARLY, "emit: no refusal of it");
-    }
     as_expected(out, "emit: a byte behind the text, or of a refused buffer");
-    return answer;
+    as_expected(report, "emit: the report of a refusal, or bytes beside it");
+    note(3, refusal);
+    return refusal;
 }
 
 /* The same into a buffer of a length, of the text's length, and one byte shorter. */
-static void check_emits(struct lent *key, struct lent *variant, struct lent *entry, size_t room) {
-    uint64_t answer = check_emit(key, variant, entry, lend(TEXT, NULL, 0, room));
-    size_t length = yuzuknoll_length(answer);
-    if (length != 0) {
-        must(check_emit(key, variant, entry, lend(TEXT, NULL, 0, length)) == answer, "emit: another answer in a buffer of the text's length");
-        must(check_emit(key, variant, entry, lend(TEXT, NULL, 0, length - 1)) == YUZUKNOLL_TEXT_TOO_LONG, "emit: no 8 one byte short");
-    }
+static void check_emits(const uint8_t *held, size_t room) {
+    const uint8_t *variant_record = held + YUZUKNOLL_KEY_RECORD_LENGTH, *entry_record = variant_record + YUZUKNOLL_VARIANT_RECORD_LENGTH;
+    struct lent *key = lend(KEY, held + 1, sizeof(yuzuknoll_key), sizeof(yuzuknoll_key));
+    struct lent *variant = lend(VARIANT, variant_record + 1, sizeof(yuzuknoll_variant), sizeof(yuzuknoll_variant));
+    struct lent *entry = lend(ENTRY, entry_record + 1, sizeof(yuzuknoll_entry), sizeof(yuzuknoll_entry));
+    yuzuknoll_result first, again;
+    if (check_emit(key, variant, entry, room, &first) != YUZUKNOLL_ACCEPTED)
+        return;
+    must(check_emit(key, variant, entry, first.length, &again) == YUZUKNOLL_ACCEPTED, "emit: refused in a buffer of the text's length");
+    must(memcmp(&first, &again, sizeof first) == 0, "emit: another report in a buffer of the text's length");
+    must(check_emit(key, variant, entry, first.length - 1, &again) == YUZUKNOLL_REFUSED_NO_ROOM, "emit: room one byte short");
 }
 
 /* Whether a part of what is held is a good record of its kind. */
 static int holds(const uint8_t *part, size_t length, unsigned kind) {
-    uint64_t read = yuzuknoll_read(part, length);
-    return yuzuknoll_refusal(read) == YUZUKNOLL_ACCEPTED && yuzuknoll_kind(read) == kind;
+    yuzuknoll_record record;
+    return yuzuknoll_read(part, length, &record) == YUZUKNOLL_ACCEPTED && record.kind == kind;
 }
 
-/* What an emit record must answer; expects its text in the buffer. */
-static uint64_t emit_expected(const uint8_t *held, struct lent *out) {
+/* What an emit record must answer and report; expects its text in the buffer. */
+static uint64_t emit_expected(const uint8_t *held, struct lent *out, yuzuknoll_result *result) {
     static uint8_t text[MOST];
-    const uint8_t *variant = held + YUZUKNOLL_KEY_LENGTH, *entry = variant + YUZUKNOLL_VARIANT_LENGTH;
-    if (!holds(held, YUZUKNOLL_KEY_LENGTH, YUZUKNOLL_KIND_KEY) || !holds(variant, YUZUKNOLL_VARIANT_LENGTH, YUZUKNOLL_KIND_VARIANT) ||
-        !holds(entry, YUZUKNOLL_ENTRY_LENGTH, YUZUKNOLL_KIND_ENTRY))
-        return YUZUKNOLL_EMIT_TOO_EARLY;
-    uint64_t answer =
-        yuzuknoll_emit(held, YUZUKNOLL_KEY_LENGTH, variant, YUZUKNOLL_VARIANT_LENGTH, entry, YUZUKNOLL_ENTRY_LENGTH, text, out->length);
-    if (yuzuknoll_refusal(answer) != YUZUKNOLL_ACCEPTED) {
-        must(answer == YUZUKNOLL_TEXT_TOO_LONG, "emit: good records refused");
-        return answer;
+    const uint8_t *variant = held + YUZUKNOLL_KEY_RECORD_LENGTH, *entry = variant + YUZUKNOLL_VARIANT_RECORD_LENGTH;
+    if (!holds(held, YUZUKNOLL_KEY_RECORD_LENGTH, YUZUKNOLL_KIND_KEY) || !holds(variant, YUZUKNOLL_VARIANT_RECORD_LENGTH, YUZUKNOLL_KIND_VARIANT) ||
+        !holds(entry, YUZUKNOLL_ENTRY_RECORD_LENGTH, YUZUKNOLL_KIND_ENTRY))
+        return YUZUKNOLL_REFUSED_EMIT_TOO_EARLY;
+    uint64_t refusal = yuzuknoll_emit((const yuzuknoll_key *)(held + 1), (const yuzuknoll_variant *)(variant + 1),
+                                      (const yuzuknoll_entry *)(entry + 1), text, out->length, result);
+    if (refusal == YUZUKNOLL_ACCEPTED) {
+        check_emitted(result, text, out->length);
+        expect(out, 0, text, result->length);
+    } else {
+        must(refusal == YUZUKNOLL_REFUSED_NO_ROOM, "emit: good values refused");
     }
-    check_emitted(answer, text, out->length);
-    expect(out, 0, text, yuzuknoll_length(answer));
-    return answer | (uint64_t)YUZUKNOLL_EMIT_LENGTH << 56;
+    return refusal;
 }
 
-static uint64_t check_apply(struct lent *held, struct lent *bytes, uint64_t read, size_t room) {
-    static const size_t places[] = {0, YUZUKNOLL_KEY_LENGTH, YUZUKNOLL_KEY_LENGTH + YUZUKNOLL_VARIANT_LENGTH};
-    struct lent *out = lend(TEXT, NULL, 0, room);
-    size_t length = yuzuknoll_record_length(read);
-    uint64_t expected;
-    if (held->length != YUZUKNOLL_HELD_LENGTH) {
-        expected = YUZUKNOLL_LENGTH;
-    } else if (yuzuknoll_refusal(read) != YUZUKNOLL_ACCEPTED) {
-        expected = read;
-    } else if (yuzuknoll_kind(read) == YUZUKNOLL_KIND_EMIT) {
-        expected = emit_expected(held->bytes, out);
-    } else {
-        expect(held, places[yuzuknoll_kind(read) - 1], bytes->bytes, length);
-        expected = (uint64_t)length << 56;
+/* yuzuknoll_apply after yuzuknoll_read said what it did of the record. What is held is left as the call leaves it. */
+static uint64_t check_apply(struct lent *held, struct lent *bytes, uint64_t read, const yuzuknoll_record *record, size_t room,
+                            yuzuknoll_applied *applied) {
+    static const size_t places[] = {0, YUZUKNOLL_KEY_RECORD_LENGTH, YUZUKNOLL_KEY_RECORD_LENGTH + YUZUKNOLL_VARIANT_RECORD_LENGTH};
+    struct lent *out = lend_room(TEXT, room), *report = lend_room(REPORT, sizeof *applied);
+    uint64_t expected = read;
+    memset(applied, 0, sizeof *applied);
+    if (read == YUZUKNOLL_ACCEPTED) {
+        applied->kind = record->kind;
+        applied->taken = record->taken;
+        if (record->kind == YUZUKNOLL_KIND_EMIT)
+            expected = emit_expected(held->bytes, out, &applied->result);
+        else
+            expect(held, places[record->kind - 1], bytes->bytes, record->taken);
     }
-    must(yuzuknoll_apply(held->bytes, held->length, bytes->bytes, bytes->length, out->bytes, room) == expected, "apply: another answer");
+    if (expected == YUZUKNOLL_ACCEPTED)
+        expect(report, 0, applied, sizeof *applied);
+    must(yuzuknoll_apply(held->bytes, bytes->bytes, bytes->length, out->bytes, room, report->bytes) == expected, "apply: another answer");
     as_expected(held, "apply: another byte of what is held");
     as_expected(bytes, "apply: the record was written");
     as_expected(out, "apply: another byte of the text's buffer");
-    note(4, yuzuknoll_refusal(expected));
+    as_expected(report, "apply: another report");
+    note(4, expected);
     return expected;
 }
 
-/* A length that is mostly the good one. */
-static size_t altered(size_t length, unsigned how) {
-    switch (how & 7) {
-    case 1: return length - 1;
-    case 2: return length + 1;
-    case 3: return 0;
-    default: return length;
-    }
+/* An emit record again, into a buffer of the text's length, and one byte shorter. */
+static void check_apply_again(struct lent *held, struct lent *bytes, const yuzuknoll_record *record, const yuzuknoll_applied *first) {
+    size_t length = first->result.length;
+    yuzuknoll_applied again;
+    must(check_apply(held, bytes, YUZUKNOLL_ACCEPTED, record, length, &again) == YUZUKNOLL_ACCEPTED,
+         "apply: refused in a buffer of the text's length");
+    must(memcmp(first, &again, sizeof again) == 0, "apply: another report in a buffer of the text's length");
+    must(check_apply(held, bytes, YUZUKNOLL_ACCEPTED, record, length - 1, &again) == YUZUKNOLL_REFUSED_NO_ROOM, "apply: room one byte short");
 }
 
 static void go_through(const uint8_t *data, size_t size) {
     size_t room = (data[0] | (size_t)data[1] << 8) % (YUZUKNOLL_TEXT_LENGTH + 2), written = data[2] % 80;
-    unsigned alter = data[3];
-    const uint8_t *key = data + HEAD, *variant = key + YUZUKNOLL_KEY_LENGTH, *entry = variant + YUZUKNOLL_VARIANT_LENGTH;
     const uint8_t *records = data + FRONT;
     size_t left = size - FRONT;
-    check_emits(lend(KEY, key, YUZUKNOLL_KEY_LENGTH, altered(YUZUKNOLL_KEY_LENGTH, alter)),
-                lend(VARIANT, variant, YUZUKNOLL_VARIANT_LENGTH, altered(YUZUKNOLL_VARIANT_LENGTH, alter >> 2)),
-                lend(ENTRY, entry, YUZUKNOLL_ENTRY_LENGTH, altered(YUZUKNOLL_ENTRY_LENGTH, alter >> 4)), room);
-    struct lent *held = lend(HELD, key, YUZUKNOLL_HELD_LENGTH, altered(YUZUKNOLL_HELD_LENGTH, alter >> 5));
+    check_emits(data + HEAD, room);
+    struct lent *held = lend(HELD, data + HEAD, sizeof(yuzuknoll_held), sizeof(yuzuknoll_held));
     for (;;) {
         struct lent *bytes = lend(BYTES, records, left, left);
-        uint64_t read = check_read(bytes);
-        check_write(bytes, read, written);
-        uint64_t answer = check_apply(held, bytes, read, room);
-        if (yuzuknoll_refusal(answer) != YUZUKNOLL_ACCEPTED)
+        yuzuknoll_record record;
+        yuzuknoll_applied applied;
+        uint64_t read = check_read(bytes, &record);
+        check_write(bytes, read, &record, written);
+        if (check_apply(held, bytes, read, &record, room, &applied) != YUZUKNOLL_ACCEPTED)
             return;
-        if (yuzuknoll_length(answer) != 0) {
-            must(check_apply(held, bytes, read, yuzuknoll_length(answer)) == answer, "apply: another answer in a buffer of the text's length");
-            must(check_apply(held, bytes, read, yuzuknoll_length(answer) - 1) == YUZUKNOLL_TEXT_TOO_LONG, "apply: no 8 one byte short");
-        }
-        records += yuzuknoll_taken(answer);
-        left -= yuzuknoll_taken(answer);
+        if (applied.kind == YUZUKNOLL_KIND_EMIT)
+            check_apply_again(held, bytes, &record, &applied);
+        records += applied.taken;
+        left -= applied.taken;
     }
 }
 

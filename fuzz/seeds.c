@@ -26,7 +26,7 @@ static uint8_t *put_key(uint8_t *at) {
     at = put(at, YUZUKNOLL_KIND_KEY);
     for (int stage = 0; stage < 8; stage++) {
         for (int role = 0; role < 2; role++) {
-            at = put(at, below(12) == 0 ? 1 : 1 + below(26));
+            at = put(at, below(12) == 0 ? YUZUKNOLL_OP_DISABLE : 1 + below(26));
             at = put_argument(put_argument(at));
         }
         at = put(at, below(4));
@@ -45,18 +45,18 @@ static uint8_t *put_variant(uint8_t *at) {
 static uint8_t *put_entry(uint8_t *at) {
     static const char letters[] = "_ABCDEFGHIJKLMNOPQRSTUVWXYZabcdefghijklmnopqrstuvwxyz0123456789";
     unsigned length = 1 + below(32);
-    memset(at, 0, YUZUKNOLL_ENTRY_LENGTH);
+    memset(at, 0, YUZUKNOLL_ENTRY_RECORD_LENGTH);
     at[0] = YUZUKNOLL_KIND_ENTRY;
     at[1] = (uint8_t)length;
     for (unsigned i = 0; i < length; i++)
         at[2 + i] = (uint8_t)letters[below(i == 0 ? 53 : 63)];
-    return at + YUZUKNOLL_ENTRY_LENGTH;
+    return at + YUZUKNOLL_ENTRY_RECORD_LENGTH;
 }
 
 /* Buffers that are large enough, or of any length. */
 static uint8_t *put_lengths(uint8_t *at) {
     unsigned room = below(4) == 0 ? below(4000) : YUZUKNOLL_TEXT_LENGTH;
-    return put(put(put(put(at, room & 255), room >> 8), below(80)), 0);
+    return put(put(put(at, room & 255), room >> 8), below(80));
 }
 
 static uint8_t *put_held(uint8_t *at) {

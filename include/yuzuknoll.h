@@ -1,10 +1,27 @@
-/* Yuzuknoll: Metal fragment texts of the Direct3D 9 fixed-function pixel path.
+/* Yuzuknoll writes Metal fragment functions for the fixed-function pixel stages of Direct3D 9.
  *
- * The archive is made by `rt staticlib service` (target/staticlib/libservice.a). It needs no set-up, keeps no state, takes no memory and calls
- * nothing outside but memcpy and memset; any number of threads may call it, each with buffers of its own. x86-64 Linux.
+ *     yuzuknoll_key key = {.stages = {{.colour_op = YUZUKNOLL_OP_MODULATE,
+ *                                      .colour_arg1 = YUZUKNOLL_ARG_TEXTURE,
+ *                                      .colour_arg2 = YUZUKNOLL_ARG_DIFFUSE,
+ *                                      .alpha_op = YUZUKNOLL_OP_SELECTARG1,
+ *                                      .alpha_arg1 = YUZUKNOLL_ARG_TEXTURE,
+ *                                      .flags = YUZUKNOLL_STAGE_TEXTURED},
+ *                                     {.colour_op = YUZUKNOLL_OP_DISABLE}}};
+ *     yuzuknoll_variant variant = {0};
+ *     yuzuknoll_entry entry = YUZUKNOLL_ENTRY("my_shader");
+ *     yuzuknoll_result result;
+ *     static uint8_t text[YUZUKNOLL_TEXT_LENGTH];
+ *     if (yuzuknoll_emit(&key, &variant, &entry, text, sizeof text, &result) == YUZUKNOLL_ACCEPTED)
+ *         fwrite(text, 1, result.length, stdout);
  *
- * Memory is lent as a pointer and a length. A pointer is never null, also where the length is 0, and what is written overlaps nothing else that the
- * same call is lent.
+ * The command `rt staticlib yuzuknoll` makes the library, target/staticlib/libyuzuknoll.a, for x86-64 Linux.
+ *
+ * The library needs no set-up, keeps nothing between calls and allocates no memory. Threads may call it at the same
+ * time, as long as no call writes to memory that another one uses.
+ *
+ * Every call returns YUZUKNOLL_ACCEPTED (0) or the number of a refusal. On refusal nothing is modified: no buffer and
+ * no struct. No pointer may be null, not even one to a buffer of length 0. What a call writes must not overlap anything
+ * else that is passed to the same call.
  */
 #ifndef YUZUKNOLL_H
 #define YUZUKNOLL_H
@@ -16,120 +33,258 @@
 extern "C" {
 #endif
 
-/* The kind bytes of records. */
+#define YUZUKNOLL_VERSION "0.4.0"
+#define YUZUKNOLL_VERSION_MAJOR 0
+#define YUZUKNOLL_VERSION_MINOR 4
+#define YUZUKNOLL_VERSION_PATCH 0
+
+/* ---- Refusals ---- */
+
+/* What a call returns. Of several causes it returns the first one, in the order that is given with the call. */
+#define YUZUKNOLL_ACCEPTED 0
+#define YUZUKNOLL_REFUSED_CUT_SHORT 1      /* There is no byte to read, or the record ends before its length. */
+#define YUZUKNOLL_REFUSED_UNKNOWN_KIND 2   /* The first byte of the record is not one of YUZUKNOLL_KIND_... */
+#define YUZUKNOLL_REFUSED_STAGE_FLAGS 3    /* The flags of a stage have a bit that is not one of YUZUKNOLL_STAGE_... */
+#define YUZUKNOLL_REFUSED_SPECULAR_ADD 4   /* The specular byte of the key is neither 0 nor 1. */
+#define YUZUKNOLL_REFUSED_VARIANT_FLAGS 5  /* The variant's flags have a bit that is not one of YUZUKNOLL_VARIANT_... */
+#define YUZUKNOLL_REFUSED_ENTRY_NAME 6     /* The entry breaks a rule that is given with yuzuknoll_entry. */
+#define YUZUKNOLL_REFUSED_EMIT_TOO_EARLY 7 /* An emit record came before a key, a variant and an entry were held. */
+#define YUZUKNOLL_REFUSED_NO_ROOM 8        /* The text, or the record to write, is longer than the buffer. */
+#define YUZUKNOLL_REFUSED_INPUT_TOO_LONG 9 /* No call returns this. The program ffps takes no more than 32,768 bytes. */
+
+/* ---- Keys ---- */
+
+/* The ops of a stage, with Direct3D's numbers (D3DTOP_...). In the formulas A is argument 1, B is argument 2, and t is
+ * the texel of the stage. The results of ops 5 to 11, 15, 18 to 21 and 24 are clamped to the range from 0 to 1. Every
+ * other number gives A, and YUZUKNOLL_WARNING_OP. If a stage has no texture, and an op reads YUZUKNOLL_ARG_TEXTURE, the
+ * op gives YUZUKNOLL_ARG_CURRENT. */
+#define YUZUKNOLL_OP_DISABLE 1                    /* as colour op: the stages end here; as alpha op: alpha is kept */
+#define YUZUKNOLL_OP_SELECTARG1 2                 /* A */
+#define YUZUKNOLL_OP_SELECTARG2 3                 /* B */
+#define YUZUKNOLL_OP_MODULATE 4                   /* A * B */
+#define YUZUKNOLL_OP_MODULATE2X 5                 /* 2 * A * B */
+#define YUZUKNOLL_OP_MODULATE4X 6                 /* 4 * A * B */
+#define YUZUKNOLL_OP_ADD 7                        /* A + B */
+#define YUZUKNOLL_OP_ADDSIGNED 8                  /* A + B - 0.5 */
+#define YUZUKNOLL_OP_ADDSIGNED2X 9                /* 2 * (A + B - 0.5) */
+#define YUZUKNOLL_OP_SUBTRACT 10                  /* A - B */
+#define YUZUKNOLL_OP_ADDSMOOTH 11                 /* A + B * (1 - A) */
+#define YUZUKNOLL_OP_BLENDDIFFUSEALPHA 12         /* A * x + B * (1 - x), where x is the alpha of the diffuse colour */
+#define YUZUKNOLL_OP_BLENDTEXTUREALPHA 13         /* the same with the alpha of t; without a texture: B */
+#define YUZUKNOLL_OP_BLENDFACTORALPHA 14          /* the same with the alpha of the texture factor */
+#define YUZUKNOLL_OP_BLENDTEXTUREALPHAPM 15       /* A + B * (1 - t.alpha); without a texture: A + B */
+#define YUZUKNOLL_OP_BLENDCURRENTALPHA 16         /* the same as 12 with the alpha of the stages before */
+#define YUZUKNOLL_OP_MODULATEALPHA_ADDCOLOR 18    /* A + A.alpha * B */
+#define YUZUKNOLL_OP_MODULATECOLOR_ADDALPHA 19    /* A * B + A.alpha */
+#define YUZUKNOLL_OP_MODULATEINVALPHA_ADDCOLOR 20 /* A + (1 - A.alpha) * B */
+#define YUZUKNOLL_OP_MODULATEINVCOLOR_ADDALPHA 21 /* (1 - A) * B + A.alpha */
+#define YUZUKNOLL_OP_BUMPENVMAP 22                /* t displaces the next stage's lookup; as alpha op: alpha is kept */
+#define YUZUKNOLL_OP_BUMPENVMAPLUMINANCE 23       /* the same, and t scales the next stage's texel */
+#define YUZUKNOLL_OP_DOTPRODUCT3 24               /* 4 * dot(A - 0.5, B - 0.5); as colour op it sets alpha too */
+
+/* The arguments of an op, with Direct3D's numbers (D3DTA_...). Add a modifier, or both, to one of the first seven. The
+ * numbers 7 to 15 in the low four bits mean white and give YUZUKNOLL_WARNING_SELECTOR. The bits 0x40 and 0x80 have no
+ * effect and give YUZUKNOLL_WARNING_MODIFIER. */
+#define YUZUKNOLL_ARG_DIFFUSE 0           /* the interpolated diffuse colour */
+#define YUZUKNOLL_ARG_CURRENT 1           /* the result of the stages before; at first the diffuse colour */
+#define YUZUKNOLL_ARG_TEXTURE 2           /* the texel of this stage */
+#define YUZUKNOLL_ARG_TFACTOR 3           /* the texture factor, ps_c[0] */
+#define YUZUKNOLL_ARG_SPECULAR 4          /* the interpolated specular colour */
+#define YUZUKNOLL_ARG_TEMP 5              /* the register TEMP; at first zero */
+#define YUZUKNOLL_ARG_CONSTANT 6          /* the constant of this stage, ps_c[stage + 1] */
+#define YUZUKNOLL_ARG_COMPLEMENT 0x10     /* modifier: one minus the argument */
+#define YUZUKNOLL_ARG_ALPHAREPLICATE 0x20 /* modifier: the argument's alpha in all four channels */
+
+/* The flags of a stage. */
+#define YUZUKNOLL_STAGE_TEXTURED 1 /* A texture is bound to the stage. */
+#define YUZUKNOLL_STAGE_TO_TEMP 2  /* The result goes to the register TEMP, not to the next stage. */
+
+/* One texture stage. Set the alpha op too: YUZUKNOLL_OP_DISABLE keeps alpha, and 0 gives argument 1 and a warning. */
+typedef struct {
+    uint8_t colour_op, colour_arg1, colour_arg2;
+    uint8_t alpha_op, alpha_arg1, alpha_arg2;
+    uint8_t flags;
+} yuzuknoll_stage;
+
+/* What the pixel stages compute. The stages before the first one with colour op YUZUKNOLL_OP_DISABLE are active. A stage
+ * of zeros is not disabled: its colour op is 0, which gives argument 1 and a warning. */
+typedef struct {
+    yuzuknoll_stage stages[8];
+    uint8_t specular;  /* 1 adds the specular colour behind the last stage, 0 does not. */
+    uint8_t projected; /* Bit i divides the texture coordinate of stage i by its last component. */
+} yuzuknoll_key;
+
+/* ---- Variants ---- */
+
+/* The comparisons of the alpha test, with Direct3D's numbers (D3DCMP_...). A pixel is kept if its alpha compares so with
+ * the reference value. 0 tests nothing. Numbers above 8 keep every pixel and give YUZUKNOLL_WARNING_ALPHA_FUNCTION. */
+#define YUZUKNOLL_CMP_NEVER 1
+#define YUZUKNOLL_CMP_LESS 2
+#define YUZUKNOLL_CMP_EQUAL 3
+#define YUZUKNOLL_CMP_LESSEQUAL 4
+#define YUZUKNOLL_CMP_GREATER 5
+#define YUZUKNOLL_CMP_NOTEQUAL 6
+#define YUZUKNOLL_CMP_GREATEREQUAL 7
+#define YUZUKNOLL_CMP_ALWAYS 8
+
+/* Fog modes, with Direct3D's numbers (D3DFOG_...). Numbers above 3 mean YUZUKNOLL_FOG_LINEAR. */
+#define YUZUKNOLL_FOG_NONE 0
+#define YUZUKNOLL_FOG_EXP 1
+#define YUZUKNOLL_FOG_EXP2 2
+#define YUZUKNOLL_FOG_LINEAR 3
+
+/* The indices of the masks of a variant. A mask has two bytes, low byte first. Its bit i is for stage i; bits 8 to 15
+ * have no effect. */
+#define YUZUKNOLL_MASK_DEPTH_SAMPLER 0 /* The texture has a depth format. The lookup compares depths. */
+#define YUZUKNOLL_MASK_DEPTH_FETCH 1   /* The lookup reads the stored depth and compares nothing. */
+#define YUZUKNOLL_MASK_FETCH4 2        /* The lookup gathers four texels, whatever the two masks above say. */
+#define YUZUKNOLL_MASK_FETCH4_ALPHA 3  /* The four texels are read from alpha, unless the format is one of depth. */
+#define YUZUKNOLL_MASK_RAW_DEPTH_RED 4 /* The stored depth goes to red alone; green and blue are 0, alpha is 1. */
+#define YUZUKNOLL_MASK_VOLUME 5        /* The texture is a volume. */
+#define YUZUKNOLL_MASK_CUBE 6          /* The texture is a cube. */
+
+/* The flags of a variant. */
+#define YUZUKNOLL_VARIANT_FLAT_SHADE 1    /* The diffuse and the specular colour are not interpolated. */
+#define YUZUKNOLL_VARIANT_SRGB_WRITE 2    /* The function encodes its colour as sRGB. */
+#define YUZUKNOLL_VARIANT_SAMPLE_MASK 4   /* The function returns the sample mask too. */
+#define YUZUKNOLL_VARIANT_POINT_SPRITE 8  /* Texture coordinates come from the place in the point. */
+#define YUZUKNOLL_VARIANT_LOD_BIAS 16     /* Lookups take their level-of-detail bias from a buffer. */
+#define YUZUKNOLL_VARIANT_FOG_SOURCE_W 32 /* Table fog goes by the eye's W in place of the depth. */
+
+/* The render states beside the key that shape the function. A variant of zeros has no alpha test, no fog and plain
+ * two-dimensional textures. */
+typedef struct {
+    uint8_t alpha_function; /* One of YUZUKNOLL_CMP_..., or 0. */
+    uint8_t fog_mode;       /* Unless it is YUZUKNOLL_FOG_NONE, fog is blended in by the factor of the vertices. */
+    uint8_t fog_table_mode; /* Unless it is YUZUKNOLL_FOG_NONE, fog is computed for each pixel, whatever fog_mode is. */
+    uint8_t masks[7][2];    /* Indexed by YUZUKNOLL_MASK_... */
+    uint8_t sample_mask;    /* Only used with YUZUKNOLL_VARIANT_SAMPLE_MASK. */
+    uint8_t flags;
+} yuzuknoll_variant;
+
+/* ---- Entries ---- */
+
+/* The name of the function: 1 to 32 ASCII letters, digits and underscores, of which the first is no digit. The bytes
+ * behind the name must be 0. */
+typedef struct {
+    uint8_t length;
+    char name[32];
+} yuzuknoll_entry;
+
+/* Initializes an entry from a string literal, as in the example above. In C++ the literal has at most 31 characters. */
+#define YUZUKNOLL_ENTRY(name) {sizeof(name) - 1, name}
+
+/* ---- Emission ---- */
+
+/* No text has more bytes than this, so a buffer of this length takes every text. */
+#define YUZUKNOLL_TEXT_LENGTH 16384
+
+/* The warning of a result is the sum of these. A warning is no refusal: there is a text. */
+#define YUZUKNOLL_WARNING_OP 1             /* A stage has an op without a formula. Its argument 1 was used. */
+#define YUZUKNOLL_WARNING_SELECTOR 2       /* An argument has a selector from 7 to 15. White was used. */
+#define YUZUKNOLL_WARNING_MODIFIER 4       /* An argument has the bit 0x40 or 0x80. It was ignored. */
+#define YUZUKNOLL_WARNING_ALPHA_FUNCTION 8 /* The alpha function is above 8. Every pixel is kept. */
+
+/* What yuzuknoll_emit reports of a text. */
+typedef struct {
+    uint64_t length;  /* The number of bytes of the text. */
+    uint64_t mask;    /* Bit i is set if stage i is active and has a texture. */
+    uint64_t rows;    /* The number of rows that the buffer ps_c must have: 0 to 9. */
+    uint64_t lookups; /* The number of texture lookups in the text: 0 to 8. */
+    uint64_t warning; /* The sum of YUZUKNOLL_WARNING_... */
+} yuzuknoll_result;
+
+/* Writes the Metal function of a key, a variant and an entry to the front of text, as ASCII without a zero at the end.
+ *
+ * Stage i has texture i and sampler i. The function takes these buffers, all but ps_c only if it needs them:
+ *   15 ps_c       row 0 is the texture factor, row i + 1 the constant of stage i
+ *   14 alpha_ref  the reference value of the alpha test
+ *   13 fog_data   row 0 is the fog colour; row 1 holds start, end, density and depth bias
+ *   12 bump_env   row 2 * i is the matrix of stage i (m00, m01, m10, m11); row 2 * i + 1 has luminance scale and offset
+ *   11 lod_bias   row i holds the bias of stage i in x, and in w the level for a lookup of depth
+ *
+ * Refuses with 3, 4, 5, 6 or 8, in this order. Does not modify the bytes after the text. On refusal nothing is
+ * modified. */
+uint64_t yuzuknoll_emit(const yuzuknoll_key *key, const yuzuknoll_variant *variant, const yuzuknoll_entry *entry,
+                        uint8_t *text, size_t text_length, yuzuknoll_result *result);
+
+/* ---- Records ---- */
+
+/* Keys, variants and entries can be stored and sent as records. A record is a byte for its kind, followed by the bytes
+ * of a yuzuknoll_key, yuzuknoll_variant or yuzuknoll_entry. An emit record, which asks for a text, is its kind alone. */
 #define YUZUKNOLL_KIND_KEY 1
 #define YUZUKNOLL_KIND_VARIANT 2
 #define YUZUKNOLL_KIND_ENTRY 3
 #define YUZUKNOLL_KIND_EMIT 4
 
-/* The lengths of whole records: a kind byte, then a body of 58, 19, 33 or 0 bytes. */
-#define YUZUKNOLL_KEY_LENGTH 59
-#define YUZUKNOLL_VARIANT_LENGTH 20
-#define YUZUKNOLL_ENTRY_LENGTH 34
-#define YUZUKNOLL_EMIT_LENGTH 1
+/* The number of bytes of a record, its kind included. */
+#define YUZUKNOLL_KEY_RECORD_LENGTH 59
+#define YUZUKNOLL_VARIANT_RECORD_LENGTH 20
+#define YUZUKNOLL_ENTRY_RECORD_LENGTH 34
+#define YUZUKNOLL_EMIT_RECORD_LENGTH 1
 
-/* What is held: a key's, a variant's and an entry's record behind one another. */
+/* What yuzuknoll_read and yuzuknoll_write report. */
+typedef struct {
+    uint64_t kind;  /* One of YUZUKNOLL_KIND_... */
+    uint64_t taken; /* The number of bytes of the record. */
+} yuzuknoll_record;
+
+/* Checks the record at the front of bytes. The bytes after it do not matter.
+ *
+ * Refuses with 1 if there is no byte, with 2, with 1 if the record is cut short, or with 3, 4, 5 or 6, in this order. On
+ * refusal nothing is modified. */
+uint64_t yuzuknoll_read(const uint8_t *bytes, size_t length, yuzuknoll_record *record);
+
+/* Checks the record at the front of bytes and copies it to the front of out. The bytes after it do not matter.
+ *
+ * Refuses as yuzuknoll_read does, then with 8. Does not modify the bytes of out after the record. On refusal nothing is
+ * modified. */
+uint64_t yuzuknoll_write(const uint8_t *bytes, size_t length, uint8_t *out, size_t out_length, yuzuknoll_record *record);
+
+/* ---- Sessions ---- */
+
+/* The key, the variant and the entry that the records so far have set: their records, one after another. A struct of
+ * zeros holds nothing. A part that yuzuknoll_read refuses, or that has another kind, counts as not held. */
 #define YUZUKNOLL_HELD_LENGTH 113
+typedef struct {
+    uint8_t bytes[YUZUKNOLL_HELD_LENGTH];
+} yuzuknoll_held;
 
-/* No text is longer. */
-#define YUZUKNOLL_TEXT_LENGTH 16384
+/* What yuzuknoll_apply reports. */
+typedef struct {
+    uint64_t kind;           /* One of YUZUKNOLL_KIND_... */
+    uint64_t taken;          /* The number of bytes of the record. The next record begins there. */
+    yuzuknoll_result result; /* What yuzuknoll_emit reports, if this is an emit record. All 0 if it is not. */
+} yuzuknoll_applied;
 
-/* Why a call is refused. */
-#define YUZUKNOLL_ACCEPTED 0
-#define YUZUKNOLL_LENGTH 1         /* no byte, or a body cut short; a part of yuzuknoll_emit, or held, of another length */
-#define YUZUKNOLL_KIND 2           /* a kind byte that is not 1 to 4; for yuzuknoll_emit, not the one of its place */
-#define YUZUKNOLL_STAGE_FLAGS 3    /* a stage flag bit 2 to 7 */
-#define YUZUKNOLL_SPECULAR 4       /* a specular byte above 1 */
-#define YUZUKNOLL_VARIANT_FLAGS 5  /* variant flag bit 6 or 7 */
-#define YUZUKNOLL_ENTRY 6          /* an entry that is no name of 1 to 32 bytes with zeros behind it */
-#define YUZUKNOLL_EMIT_TOO_EARLY 7 /* an emit record where a key, a variant or an entry is not held */
-#define YUZUKNOLL_TEXT_TOO_LONG 8  /* the text, or the record that is to be written, is longer than the buffer */
+/* Takes the record at the front of bytes. A key, a variant or an entry replaces the one that is held. An emit record
+ * writes the Metal function of what is held to the front of text, as yuzuknoll_emit does. The bytes after the record do
+ * not matter.
+ *
+ * Refuses as yuzuknoll_read does, and an emit record also with 7 or 8, in this order. Does not modify the other parts of
+ * held, nor the bytes after the text; unless it is an emit record, text is not modified. On refusal nothing is
+ * modified. */
+uint64_t yuzuknoll_apply(yuzuknoll_held *held, const uint8_t *bytes, size_t length, uint8_t *text, size_t text_length,
+                         yuzuknoll_applied *applied);
 
-/* yuzuknoll_emit: writes the text of a key, a variant and an entry to the front of a buffer.
- *
- * Takes three whole records and a buffer.
- *   key      1, then eight stages of seven bytes (colour op, its arguments 1 and 2, alpha op, its arguments 1 and 2, flags: bit 0 a texture is
- *            bound, bit 1 the result goes to TEMP), specular add (0 or 1), the projected mask: 59 bytes.
- *   variant  2, then alpha function, fog mode, fog table mode; seven 16-bit masks, low byte first: depth_sampler, depth_fetch, fetch4,
- *            fetch4_alpha, raw_depth_red, volume, cube; sample mask; flags from bit 0: FLAT_SHADE, SRGB_WRITE, SAMPLE_MASK, POINT_SPRITE,
- *            LOD_BIAS, FOG_SOURCE_W: 20 bytes.
- *   entry    3, then the length of the name, the name, zeros: 34 bytes.
- *   out      any length; YUZUKNOLL_TEXT_LENGTH bytes are enough for every text.
- *
- * Answers one number, to be taken apart by the functions below: the refusal in bits 0 to 7. With refusal 0, mask (the stages with a texture, bit i
- * for stage i) in bits 8 to 15, rows (of ps_c) in 16 to 23, lookups in 24 to 31, warning in 32 to 39, and the text's length from bit 40 on. With
- * another, every other bit is 0. The warning sums 1 for an op without a text, 2 for an argument with selector 7 to 15, 4 for one with bits 0xc0,
- * 8 for an alpha function above 8.
- *
- * The parts are looked at in the order key, variant, entry, and in each the kind comes before the length, and the length before the body's causes,
- * 3 before 4; 8 comes last. The first refusal is answered.
- *
- * Leaves the records as they were, and the buffer behind the text; the whole buffer where it refuses.
- */
-uint64_t yuzuknoll_emit(const uint8_t *key, size_t key_length, const uint8_t *variant, size_t variant_length, const uint8_t *entry, size_t entry_length,
-                        uint8_t *out, size_t out_length);
+/* ---- Sizes ---- */
 
-/* yuzuknoll_read: the record at the front of some bytes.
- *
- * Takes any bytes. Those behind the record are not looked at.
- *
- * Answers one number: the refusal (1 to 6) in bits 0 to 7. With refusal 0, the record's kind (1 key, 2 variant, 3 entry, 4 emit) in bits 8 to 15 and
- * the bytes that it took (59, 20, 34 or 1) in bits 16 to 23. Every other bit is 0. The record's value is its bytes: what is read writes back to the
- * bytes that it was read from.
- *
- * The kind comes before the length, and the length before the body's causes, 3 before 4. The first refusal is answered.
- *
- * Leaves the bytes as they were.
- */
-uint64_t yuzuknoll_read(const uint8_t *bytes, size_t length);
-
-/* yuzuknoll_write: writes the record at the front of some bytes to the front of a buffer.
- *
- * Takes any bytes, of which those behind the record are not looked at, and a buffer of any length.
- *
- * Answers as yuzuknoll_read does, or 8 where the record is good and the buffer is shorter than it.
- *
- * Leaves the record as it was, and the buffer behind what is written; the whole buffer where it refuses.
- */
-uint64_t yuzuknoll_write(const uint8_t *record, size_t record_length, uint8_t *out, size_t out_length);
-
-/* yuzuknoll_apply: reads the record at the front of some bytes and applies it to what is held.
- *
- *   held     YUZUKNOLL_HELD_LENGTH bytes: the key's record (59), the variant's (20) and the entry's (34), each all zeros where it is not held.
- *            Zeroed memory holds nothing. A part that is no good record of its kind counts as not held, and stays until a record replaces it.
- *   bytes    any bytes; those behind the record are not looked at.
- *   text     any length; YUZUKNOLL_TEXT_LENGTH bytes are enough for every text. A record that is no emit record does not touch it.
- *
- * A key, variant or entry record becomes its part of held. An emit record writes the text of the three that are held to the front of text, as
- * yuzuknoll_emit does.
- *
- * Answers one number: the refusal in bits 0 to 7. With refusal 0, the bytes that the record took in bits 56 to 63, and for an emit record, as
- * yuzuknoll_emit does, mask in bits 8 to 15, rows in 16 to 23, lookups in 24 to 31, warning in 32 to 39, and the text's length in bits 40 to 55.
- * Every other bit is 0. So a stream of records is gone through by moving on by the bytes taken, until none are left or one is refused.
- *
- * Refuses with 1 where held has another length; then as yuzuknoll_read does; then an emit record with 7 where not all three are held, and with 8
- * where the text is longer than its buffer.
- *
- * Leaves the bytes as they were, the other parts of held, and the buffer behind the text; held and the whole buffer where it refuses.
- */
-uint64_t yuzuknoll_apply(uint8_t *held, size_t held_length, const uint8_t *bytes, size_t length, uint8_t *text, size_t text_length);
-
-/* The refusal, of each answer. */
-static inline unsigned yuzuknoll_refusal(uint64_t answer) { return (unsigned)(answer & 255); }
-
-/* Of what yuzuknoll_emit and yuzuknoll_apply answer. */
-static inline unsigned yuzuknoll_mask(uint64_t answer) { return (unsigned)(answer >> 8 & 255); }
-static inline unsigned yuzuknoll_rows(uint64_t answer) { return (unsigned)(answer >> 16 & 255); }
-static inline unsigned yuzuknoll_lookups(uint64_t answer) { return (unsigned)(answer >> 24 & 255); }
-static inline unsigned yuzuknoll_warning(uint64_t answer) { return (unsigned)(answer >> 32 & 255); }
-static inline size_t yuzuknoll_length(uint64_t answer) { return (size_t)(answer >> 40 & 65535); }
-
-/* The bytes that the record took, of what yuzuknoll_apply answers. */
-static inline size_t yuzuknoll_taken(uint64_t answer) { return (size_t)(answer >> 56); }
-
-/* The record, of what yuzuknoll_read and yuzuknoll_write answer. */
-static inline unsigned yuzuknoll_kind(uint64_t answer) { return (unsigned)(answer >> 8 & 255); }
-static inline size_t yuzuknoll_record_length(uint64_t answer) { return (size_t)(answer >> 16 & 255); }
+/* The library relies on these sizes. */
+#if defined(__cplusplus) && __cplusplus >= 201103L
+#define YUZUKNOLL_SIZE(type, bytes) static_assert(sizeof(type) == (bytes), "the size of " #type)
+#elif !defined(__cplusplus) && defined(__STDC_VERSION__) && __STDC_VERSION__ >= 201112L
+#define YUZUKNOLL_SIZE(type, bytes) _Static_assert(sizeof(type) == (bytes), "the size of " #type)
+#else
+#define YUZUKNOLL_SIZE(type, bytes) extern char yuzuknoll_size_of_##type[sizeof(type) == (bytes) ? 1 : -1]
+#endif
+YUZUKNOLL_SIZE(yuzuknoll_key, 58);
+YUZUKNOLL_SIZE(yuzuknoll_variant, 19);
+YUZUKNOLL_SIZE(yuzuknoll_entry, 33);
+YUZUKNOLL_SIZE(yuzuknoll_result, 40);
+YUZUKNOLL_SIZE(yuzuknoll_record, 16);
+YUZUKNOLL_SIZE(yuzuknoll_applied, 56);
+YUZUKNOLL_SIZE(yuzuknoll_held, YUZUKNOLL_HELD_LENGTH);
+#undef YUZUKNOLL_SIZE
 
 #ifdef __cplusplus
 }

@@ -24,27 +24,26 @@
 
 #define COUNT(array) (sizeof(array) / sizeof((array)[0]))
 
-enum { STAGES = 8, STAGE_LENGTH = 7 };
-enum { DISABLE = 1, SELECTARG1 = 2, BUMP = 22, BUMP_LUMINANCE = 23 };
-enum { DIFFUSE, CURRENT, TEXTURE, TFACTOR, SPECULAR, TEMP, CONSTANT };
-enum { TEXTURED = 1, TO_TEMP = 2 };
-enum { FLAT_SHADE = 1, SRGB_WRITE = 2, SAMPLE_MASK = 4, POINT_SPRITE = 8, LOD_BIAS = 16, FOG_SOURCE_W = 32, ALL_FLAGS = 63 };
-/* A stage's bits, by the place of their mask in a variant. */
-enum { DEPTH_SAMPLER, DEPTH_FETCH, FETCH4, FETCH4_ALPHA, RAW_DEPTH_RED, VOLUME, CUBE, MASKS };
+#define OP(name) YUZUKNOLL_OP_##name
+#define ARG(name) YUZUKNOLL_ARG_##name
+#define FLAG(name) YUZUKNOLL_VARIANT_##name
+#define MASK(name) YUZUKNOLL_MASK_##name
+
+enum { STAGES = 8, MASKS = 7, ALL_FLAGS = 63 };
 
 struct input {
-    uint8_t key[YUZUKNOLL_KEY_LENGTH];
-    uint8_t variant[YUZUKNOLL_VARIANT_LENGTH];
-    uint8_t entry[YUZUKNOLL_ENTRY_LENGTH];
+    yuzuknoll_key key;
+    yuzuknoll_variant variant;
+    yuzuknoll_entry entry;
 };
 
 struct combiner {
     int op, first, second;
 };
 
-static const struct combiner kept = {DISABLE, 0, 0};
-static const struct combiner diffuse = {SELECTARG1, DIFFUSE, 0};
-static const struct combiner texel = {SELECTARG1, TEXTURE, 0};
+static const struct combiner kept = {OP(DISABLE), 0, 0};
+static const struct combiner diffuse = {OP(SELECTARG1), ARG(DIFFUSE), 0};
+static const struct combiner texel = {OP(SELECTARG1), ARG(TEXTURE), 0};
 
 static void fail(const char *what, const char *name) {
     fprintf(stderr, "texts: %s: %s\n", name, what);
@@ -54,48 +53,54 @@ static void fail(const char *what, const char *name) {
 /* ---- Inputs ---- */
 
 static void set_stage(struct input *in, int stage, struct combiner colour, struct combiner alpha, int flags) {
-    uint8_t *at = in->key + 1 + stage * STAGE_LENGTH;
-    at[0] = (uint8_t)colour.op, at[1] = (uint8_t)colour.first, at[2] = (uint8_t)colour.second;
-    at[3] = (uint8_t)alpha.op, at[4] = (uint8_t)alpha.first, at[5] = (uint8_t)alpha.second;
-    at[6] = (uint8_t)flags;
+    in->key.stages[stage] = (yuzuknoll_stage){
+        .colour_op = (uint8_t)colour.op,
+        .colour_arg1 = (uint8_t)colour.first,
+        .colour_arg2 = (uint8_t)colour.second,
+        .alpha_op = (uint8_t)alpha.op,
+        .alpha_arg1 = (uint8_t)alpha.first,
+        .alpha_arg2 = (uint8_t)alpha.second,
+        .flags = (uint8_t)flags,
+    };
 }
 
-static void set_specular(struct input *in, int on) { in->key[57] = (uint8_t)on; }
-static void set_projected(struct input *in, int mask) { in->key[58] = (uint8_t)mask; }
-static void set_alpha_function(struct input *in, int code) { in->variant[1] = (uint8_t)code; }
-static void set_fog(struct input *in, int mode, int table) { in->variant[2] = (uint8_t)mode, in->variant[3] = (uint8_t)table; }
-static void set_sample_mask(struct input *in, int mask) { in->variant[18] = (uint8_t)mask; }
-static void set_flags(struct input *in, int flags) { in->variant[19] = (uint8_t)flags; }
+static void set_specular(struct input *in, int on) { in->key.specular = (uint8_t)on; }
+static void set_projected(struct input *in, int mask) { in->key.projected = (uint8_t)mask; }
+static void set_alpha_function(struct input *in, int code) { in->variant.alpha_function = (uint8_t)code; }
+static void set_fog(struct input *in, int mode, int table) { in->variant.fog_mode = (uint8_t)mode, in->variant.fog_table_mode = (uint8_t)table; }
+static void set_sample_mask(struct input *in, int mask) { in->variant.sample_mask = (uint8_t)mask; }
+static void set_flags(struct input *in, int flags) { in->variant.flags = (uint8_t)flags; }
 
+/* Bit n of bits is the stage's bit in mask n. */
 static void set_stage_bits(struct input *in, int stage, unsigned bits) {
     for (int mask = 0; mask < MASKS; mask++) {
-        uint8_t *low = in->variant + 4 + 2 * mask;
+        uint8_t *low = &in->variant.masks[mask][0];
         *low = (uint8_t)((*low & ~(1u << stage)) | (bits >> mask & 1u) << stage);
     }
 }
 
 static void set_entry(struct input *in, const char *name) {
     size_t length = strlen(name);
-    if (length == 0 || length > 32) fail("not 1 to 32 bytes", name);
-    memset(in->entry, 0, sizeof in->entry);
-    in->entry[0] = 3, in->entry[1] = (uint8_t)length;
-    memcpy(in->entry + 2, name, length);
+    if (length == 0 || length > sizeof in->entry.name) fail("not 1 to 32 bytes", name);
+    in->entry = (yuzuknoll_entry){.length = (uint8_t)length};
+    memcpy(in->entry.name, name, length);
 }
 
 /* Every stage disabled, a variant of zeros, the entry m. */
 static struct input nothing(void) {
-    struct input in = {.key = {1}, .variant = {2}};
+    struct input in;
+    memset(&in, 0, sizeof in);
     for (int i = 0; i < STAGES; i++) set_stage(&in, i, kept, kept, 0);
     set_entry(&in, "m");
     return in;
 }
 
 /* A stage that does nothing but look its texture up. */
-static void set_lookup(struct input *in, int stage) { set_stage(in, stage, texel, kept, TEXTURED); }
+static void set_lookup(struct input *in, int stage) { set_stage(in, stage, texel, kept, YUZUKNOLL_STAGE_TEXTURED); }
 
 static void set_bump(struct input *in, int stage, bool luminance, bool textured) {
-    struct combiner colour = {luminance ? BUMP_LUMINANCE : BUMP, DIFFUSE, CURRENT};
-    set_stage(in, stage, colour, kept, textured ? TEXTURED : 0);
+    struct combiner colour = {luminance ? OP(BUMPENVMAPLUMINANCE) : OP(BUMPENVMAP), ARG(DIFFUSE), ARG(CURRENT)};
+    set_stage(in, stage, colour, kept, textured ? YUZUKNOLL_STAGE_TEXTURED : 0);
 }
 
 /* ---- Output ---- */
@@ -109,10 +114,10 @@ static struct {
 static uint8_t text[YUZUKNOLL_TEXT_LENGTH + 1];
 
 static size_t emitted(const struct input *in, const char *name) {
-    uint64_t answer = yuzuknoll_emit(in->key, sizeof in->key, in->variant, sizeof in->variant, in->entry, sizeof in->entry, text,
-                                     YUZUKNOLL_TEXT_LENGTH);
-    if (yuzuknoll_refusal(answer) != YUZUKNOLL_ACCEPTED) fail("the emitter refuses it", name);
-    return yuzuknoll_length(answer);
+    yuzuknoll_result result;
+    uint64_t refusal = yuzuknoll_emit(&in->key, &in->variant, &in->entry, text, YUZUKNOLL_TEXT_LENGTH, &result);
+    if (refusal != YUZUKNOLL_ACCEPTED) fail("the emitter refuses it", name);
+    return result.length;
 }
 
 /* The name of an earlier equal text, or null for a new one, which is kept. Texts are told apart by 64 bits of FNV-1a: that two of some 9,000 fall
@@ -184,16 +189,18 @@ static void write_in_namespace(const char *name, size_t length) {
     fputs("}\n", stdout);
 }
 
-static void write_hex(const uint8_t *record, size_t length) {
-    for (size_t i = 0; i < length; i++) printf("%02x", record[i]);
+static void write_record(int kind, const void *body, size_t length) {
+    const uint8_t *bytes = body;
+    printf("%02x", kind);
+    for (size_t i = 0; i < length; i++) printf("%02x", bytes[i]);
     putchar('\n');
 }
 
 static void write_records(const struct input *in) {
-    write_hex(in->key, sizeof in->key);
-    write_hex(in->variant, sizeof in->variant);
-    write_hex(in->entry, sizeof in->entry);
-    puts("04");
+    write_record(YUZUKNOLL_KIND_KEY, &in->key, sizeof in->key);
+    write_record(YUZUKNOLL_KIND_VARIANT, &in->variant, sizeof in->variant);
+    write_record(YUZUKNOLL_KIND_ENTRY, &in->entry, sizeof in->entry);
+    write_record(YUZUKNOLL_KIND_EMIT, "", 0);
 }
 
 static void write_if_new(const char *name, size_t length) {
@@ -233,10 +240,10 @@ static bool has(unsigned bits, int mask) { return (bits >> mask & 1) != 0; }
 
 /* Whether a written lookup of a stage with these bits is ill-typed. */
 static bool lookup_refused(unsigned bits) {
-    bool three = has(bits, VOLUME) || has(bits, CUBE);
-    if (has(bits, DEPTH_SAMPLER)) return false;
-    if (has(bits, FETCH4)) return three;
-    return has(bits, DEPTH_FETCH) && (three || has(bits, RAW_DEPTH_RED));
+    bool three = has(bits, MASK(VOLUME)) || has(bits, MASK(CUBE));
+    if (has(bits, MASK(DEPTH_SAMPLER))) return false;
+    if (has(bits, MASK(FETCH4))) return three;
+    return has(bits, MASK(DEPTH_FETCH)) && (three || has(bits, MASK(RAW_DEPTH_RED)));
 }
 
 /* ---- Random numbers: SplitMix64, as the oracle's generators ---- */
@@ -273,28 +280,27 @@ static int weighted(const struct choice *from, size_t count) {
 /* 01's worked stages. */
 static void worked(void) {
     struct input in = nothing();
-    memset(in.key + 1, 0, sizeof in.key - 1);
-    in.key[1] = DISABLE;
+    in.key = (yuzuknoll_key){.stages = {{.colour_op = OP(DISABLE)}}};
     put(&in, "Z1");
     in = nothing();
-    set_stage(&in, 0, (struct combiner){4, TEXTURE, DIFFUSE}, kept, TEXTURED);
+    set_stage(&in, 0, (struct combiner){OP(MODULATE), ARG(TEXTURE), ARG(DIFFUSE)}, kept, YUZUKNOLL_STAGE_TEXTURED);
     put(&in, "Z2");
-    for (int op = 2; op <= 4; op += 2) {
-        set_stage(&in, 0, (struct combiner){op, DIFFUSE, TEXTURE}, kept, 0);
+    for (int op = OP(SELECTARG1); op <= OP(MODULATE); op += 2) {
+        set_stage(&in, 0, (struct combiner){op, ARG(DIFFUSE), ARG(TEXTURE)}, kept, 0);
         put(&in, "Z3_op%d", op);
     }
     set_stage(&in, 0, diffuse, kept, 0);
     set_stage(&in, 1, diffuse, kept, 0);
-    set_stage(&in, 2, (struct combiner){SELECTARG1, 0x36, 0}, kept, 0);
+    set_stage(&in, 2, (struct combiner){OP(SELECTARG1), ARG(CONSTANT) | ARG(COMPLEMENT) | ARG(ALPHAREPLICATE), 0}, kept, 0);
     put(&in, "Z4");
     for (int op = 4; op <= 17; op += 13) {
         in = nothing();
-        set_stage(&in, 0, (struct combiner){op, DIFFUSE, TEMP}, kept, 0);
+        set_stage(&in, 0, (struct combiner){op, ARG(DIFFUSE), ARG(TEMP)}, kept, 0);
         put(&in, "Z5_op%d", op);
     }
     for (int argument = 0; argument <= 2; argument += 2) {
-        set_stage(&in, 0, (struct combiner){BUMP, 0, 0}, kept, TEXTURED);
-        set_stage(&in, 1, (struct combiner){SELECTARG1, argument, 0}, kept, TEXTURED);
+        set_stage(&in, 0, (struct combiner){OP(BUMPENVMAP), 0, 0}, kept, YUZUKNOLL_STAGE_TEXTURED);
+        set_stage(&in, 1, (struct combiner){OP(SELECTARG1), argument, 0}, kept, YUZUKNOLL_STAGE_TEXTURED);
         put(&in, "Z6_argument%d", argument);
     }
     set_bump(&in, 0, true, false);
@@ -305,18 +311,20 @@ static void worked(void) {
         put(&in, "Z8_function%d", code);
     }
     in = nothing();
-    set_stage(&in, 0, (struct combiner){13, DIFFUSE, SPECULAR}, kept, 0);
+    set_stage(&in, 0, (struct combiner){OP(BLENDTEXTUREALPHA), ARG(DIFFUSE), ARG(SPECULAR)}, kept, 0);
     put(&in, "Z9");
 }
 
 static void set_everyday_stage(struct input *in, int stage) {
-    static const int others[] = {DIFFUSE, TFACTOR, SPECULAR, CONSTANT};
+    static const int others[] = {ARG(DIFFUSE), ARG(TFACTOR), ARG(SPECULAR), ARG(CONSTANT)};
     bool textured = stage == 0 || (stage == 1 && percent(60));
-    int first = textured ? TEXTURE : others[below(4)];
-    int before = stage == 0 ? DIFFUSE : CURRENT;
-    int op = WEIGHTED({10, 4}, {4, 2}, {3, 7}, {3, 5}, {2, textured ? 13 : 16}, {1, 6}, {1, 8}, {1, 10}, {1, 11}, {1, 12}, {1, 14});
-    int alpha = WEIGHTED({4, 2}, {4, 4}, {3, 1}, {2, 3});
-    set_stage(in, stage, (struct combiner){op, first, before}, (struct combiner){alpha, first, before}, textured ? TEXTURED : 0);
+    int first = textured ? ARG(TEXTURE) : others[below(4)];
+    int before = stage == 0 ? ARG(DIFFUSE) : ARG(CURRENT);
+    int blend = textured ? OP(BLENDTEXTUREALPHA) : OP(BLENDCURRENTALPHA);
+    int op = WEIGHTED({10, OP(MODULATE)}, {4, OP(SELECTARG1)}, {3, OP(ADD)}, {3, OP(MODULATE2X)}, {2, blend}, {1, OP(MODULATE4X)},
+                      {1, OP(ADDSIGNED)}, {1, OP(SUBTRACT)}, {1, OP(ADDSMOOTH)}, {1, OP(BLENDDIFFUSEALPHA)}, {1, OP(BLENDFACTORALPHA)});
+    int alpha = WEIGHTED({4, OP(SELECTARG1)}, {4, OP(MODULATE)}, {3, OP(DISABLE)}, {2, OP(SELECTARG2)});
+    set_stage(in, stage, (struct combiner){op, first, before}, (struct combiner){alpha, first, before}, textured ? YUZUKNOLL_STAGE_TEXTURED : 0);
 }
 
 static struct input everyday_input(void) {
@@ -325,11 +333,11 @@ static struct input everyday_input(void) {
     for (int i = 0; i < count; i++) set_everyday_stage(&in, i);
     set_specular(&in, below(8) == 0);
     if (below(16) == 0) set_projected(&in, 1 << below(2));
-    set_alpha_function(&in, WEIGHTED({6, 0}, {2, 5}, {2, 7}, {1, 8}));
+    set_alpha_function(&in, WEIGHTED({6, 0}, {2, YUZUKNOLL_CMP_GREATER}, {2, YUZUKNOLL_CMP_GREATEREQUAL}, {1, YUZUKNOLL_CMP_ALWAYS}));
     int kind = below(8);
-    if (kind < 2) set_fog(&in, 3, 0);
-    if (kind == 2) set_fog(&in, 0, 1 + below(3)), set_flags(&in, FOG_SOURCE_W);
-    if (kind == 3) set_flags(&in, FLAT_SHADE);
+    if (kind < 2) set_fog(&in, YUZUKNOLL_FOG_LINEAR, YUZUKNOLL_FOG_NONE);
+    if (kind == 2) set_fog(&in, 0, 1 + below(3)), set_flags(&in, FLAG(FOG_SOURCE_W));
+    if (kind == 3) set_flags(&in, FLAG(FLAT_SHADE));
     set_entry(&in, "mtld3d_ps");
     return in;
 }
@@ -350,12 +358,12 @@ static const int ops[] = {0,  1,  2,  3,  4,  5,  6,  7,  8,  9,  10, 11, 12, 13
                           17, 18, 19, 20, 21, 22, 23, 24, 25, 26, 27, 28, 64, 128, 200, 255};
 
 static void put_selectors(struct combiner c, bool alpha, int flags) {
-    static const struct combiner temp_reader = {SELECTARG1, TEMP, 0};
+    static const struct combiner temp_reader = {OP(SELECTARG1), ARG(TEMP), 0};
     const char *role = alpha ? "alpha" : "colour";
     struct input in = nothing();
     set_stage(&in, 0, alpha ? diffuse : c, alpha ? c : kept, flags);
     put(&in, "selectors_%s_op%d_%d_%d_flags%d", role, c.op, c.first, c.second, flags);
-    if ((flags & TO_TEMP) == 0) return;
+    if ((flags & YUZUKNOLL_STAGE_TO_TEMP) == 0) return;
     set_stage(&in, 1, temp_reader, kept, 0);
     put(&in, "selectors_%s_op%d_%d_%d_flags%d_read", role, c.op, c.first, c.second, flags);
 }
@@ -378,21 +386,21 @@ static void put_kinds(int op, int first, int modifier, enum role role, bool text
     struct input in = nothing();
     for (int i = 0; i < STAGES; i++) {
         struct combiner c = {op, first, modifier | i};
-        set_stage(&in, i, role == IN_ALPHA ? diffuse : c, role == IN_COLOUR ? kept : c, textured ? TEXTURED : 0);
+        set_stage(&in, i, role == IN_ALPHA ? diffuse : c, role == IN_COLOUR ? kept : c, textured ? YUZUKNOLL_STAGE_TEXTURED : 0);
     }
     put(&in, "kinds_%s_op%d_%02x_%xx%s", role_names[role], op, (unsigned)first, (unsigned)modifier >> 4, textured ? "_textured" : "");
 }
 
 static void put_roles(int op, int first, int modifier) {
     /* Ops 1, 22, 23 and 24 in colour decide what becomes of alpha. */
-    if (op == DISABLE || op >= BUMP) {
+    if (op == OP(DISABLE) || op >= OP(BUMPENVMAP)) {
         put_kinds(op, first, modifier, IN_COLOUR, true);
         put_kinds(op, first, modifier, IN_ALPHA, true);
         return;
     }
     put_kinds(op, first, modifier, IN_BOTH, true);
     /* Without a texture only these have another text. */
-    if (op == 13 || op == 15) put_kinds(op, first, modifier, IN_BOTH, false);
+    if (op == OP(BLENDTEXTUREALPHA) || op == OP(BLENDTEXTUREALPHAPM)) put_kinds(op, first, modifier, IN_BOTH, false);
 }
 
 static void kinds(void) {
@@ -400,7 +408,7 @@ static void kinds(void) {
         for (int first = 0; first < 32; first++)
             for (int modifier = 0; modifier < 4; modifier++) put_roles(ops[op], (first & 7) | (first >> 3) << 4, modifier << 4);
     /* Bits 0x40 and 0x80 have no effect. */
-    for (int bits = 1; bits < 4; bits++) put_roles(4, bits << 6 | TEXTURE, bits << 6);
+    for (int bits = 1; bits < 4; bits++) put_roles(OP(MODULATE), bits << 6 | ARG(TEXTURE), bits << 6);
 }
 
 static void put_flags(int fog_mode, int table, int function, int flags, int specular) {
@@ -422,11 +430,11 @@ static void flags(void) {
             for (size_t table = 0; table < COUNT(fogs); table++)
                 for (size_t function = 0; function < COUNT(functions); function++)
                     put_flags(fogs[mode], fogs[table], functions[function], set, 0);
-    for (int set = 0; set <= ALL_FLAGS; set++) put_flags(3, 3, 5, set, 1);
+    for (int set = 0; set <= ALL_FLAGS; set++) put_flags(YUZUKNOLL_FOG_LINEAR, YUZUKNOLL_FOG_LINEAR, YUZUKNOLL_CMP_GREATER, set, 1);
     for (int mask = 0; mask < 256; mask++) {
         struct input in = nothing();
         set_sample_mask(&in, mask);
-        set_flags(&in, SAMPLE_MASK);
+        set_flags(&in, FLAG(SAMPLE_MASK));
         put(&in, "flags_sample_mask%d", mask);
     }
 }
@@ -464,7 +472,7 @@ static void put_lookups(const char *corpus, bool refused_too) {
             for (int before = stage == 0 ? ORDINARY : 0; before < (stage == 0 ? 1 : BEFORES); before++)
                 for (int more = 0; more < 8; more++) {
                     if (stage > 1 && more > 1) continue;
-                    int set = ((more & 2) != 0 ? LOD_BIAS : 0) | ((more & 4) != 0 ? POINT_SPRITE : 0);
+                    int set = ((more & 2) != 0 ? FLAG(LOD_BIAS) : 0) | ((more & 4) != 0 ? FLAG(POINT_SPRITE) : 0);
                     struct input in = lookup_at(stage, (enum before)before, bits, more & 1, set);
                     put(&in, "%s_%s_stage%d_%s%s_flags%d_%s", corpus, bits_name(bits), stage, before_names[before],
                         (more & 1) != 0 ? "_projected" : "", set, verdict(lookup_refused(bits)));
@@ -480,20 +488,20 @@ static void sweep(void) {
     put_lookups("sweep", true);
     for (unsigned bits = 0; bits < 1u << MASKS; bits++) {
         struct input in = nothing();
-        set_stage(&in, 0, diffuse, kept, TEXTURED);
+        set_stage(&in, 0, diffuse, kept, YUZUKNOLL_STAGE_TEXTURED);
         set_stage_bits(&in, 0, bits);
         put(&in, "sweep_%s_unread_accepted", bits_name(bits));
         in = nothing();
         set_stage_bits(&in, 0, bits);
         put(&in, "sweep_%s_disabled_accepted", bits_name(bits));
         in = lookup_at(0, ORDINARY, 0, 0, 0);
-        for (int mask = 0; mask < MASKS; mask++) in.variant[5 + 2 * mask] = has(bits, mask) ? 0xff : 0;
+        for (int mask = 0; mask < MASKS; mask++) in.variant.masks[mask][1] = has(bits, mask) ? 0xff : 0;
         put(&in, "sweep_%s_high_accepted", bits_name(bits));
         for (int luminance = 0; luminance < 2; luminance++) {
             in = lookup_at(1, luminance ? LIT : BUMPED, 0, 0, 0);
             set_stage_bits(&in, 0, bits);
             put(&in, "sweep_%s_of_bump%d_%s", bits_name(bits), luminance, verdict(lookup_refused(bits)));
-            set_stage(&in, 1, diffuse, kept, TEXTURED);
+            set_stage(&in, 1, diffuse, kept, YUZUKNOLL_STAGE_TEXTURED);
             put(&in, "sweep_%s_of_bump%d_unread_accepted", bits_name(bits), luminance);
         }
     }
@@ -503,7 +511,7 @@ static void sweep(void) {
 static void put_bump_chain(int length, int pattern, bool sampled, bool projected) {
     struct input in = nothing();
     for (int i = 0; i < length; i++) set_bump(&in, i, (pattern >> (2 * (i % 4)) & 2) != 0, (pattern >> (2 * (i % 4)) & 1) != 0);
-    if (length < STAGES) set_stage(&in, length, sampled ? texel : diffuse, kept, TEXTURED);
+    if (length < STAGES) set_stage(&in, length, sampled ? texel : diffuse, kept, YUZUKNOLL_STAGE_TEXTURED);
     set_projected(&in, projected ? 0xff : 0);
     put(&in, "bump_%d_%d%s%s", length, pattern, sampled ? "_sampled" : "", projected ? "_projected" : "");
 }
@@ -515,7 +523,8 @@ static void bump(void) {
 }
 
 static int mixed_argument(void) {
-    int known = WEIGHTED({8, TEXTURE}, {4, TEMP}, {4, CONSTANT}, {3, DIFFUSE}, {3, CURRENT}, {2, TFACTOR}, {2, SPECULAR});
+    int known = WEIGHTED({8, ARG(TEXTURE)}, {4, ARG(TEMP)}, {4, ARG(CONSTANT)}, {3, ARG(DIFFUSE)}, {3, ARG(CURRENT)}, {2, ARG(TFACTOR)},
+                         {2, ARG(SPECULAR)});
     int selector = percent(94) ? known : 7 + below(9);
     return selector | (percent(60) ? 0 : below(16) << 4);
 }
@@ -523,7 +532,7 @@ static int mixed_argument(void) {
 static struct combiner mixed_combiner(void) {
     static const int frequent[] = {13, 15, 17, 22, 23, 24};
     int op = percent(60) ? ops[below((int)COUNT(ops))] : frequent[below((int)COUNT(frequent))];
-    struct combiner c = {op == DISABLE && percent(80) ? 4 : op, mixed_argument(), mixed_argument()};
+    struct combiner c = {op == OP(DISABLE) && percent(80) ? OP(MODULATE) : op, mixed_argument(), mixed_argument()};
     return c;
 }
 
@@ -534,7 +543,7 @@ static void mixed(void) {
         struct input in = nothing();
         for (int stage = 0; stage < STAGES; stage++) {
             struct combiner colour = mixed_combiner(), alpha = mixed_combiner();
-            set_stage(&in, stage, colour, alpha, (percent(60) ? TEXTURED : 0) | (percent(25) ? TO_TEMP : 0));
+            set_stage(&in, stage, colour, alpha, (percent(60) ? YUZUKNOLL_STAGE_TEXTURED : 0) | (percent(25) ? YUZUKNOLL_STAGE_TO_TEMP : 0));
             unsigned bits = (unsigned)random64() & ((1u << MASKS) - 1);
             set_stage_bits(&in, stage, percent(50) || lookup_refused(bits) ? 0 : bits);
         }
@@ -556,18 +565,19 @@ static struct input rich(void) {
     struct input in = nothing();
     for (int i = 0; i < STAGES; i++) set_lookup(&in, i);
     set_bump(&in, 0, true, true);
-    set_stage(&in, 2, (struct combiner){24, TEXTURE, TEMP}, kept, TEXTURED | TO_TEMP);
-    set_stage(&in, 3, (struct combiner){18, TEXTURE, TFACTOR}, (struct combiner){11, SPECULAR, CONSTANT}, TEXTURED);
-    set_stage_bits(&in, 2, 1u << DEPTH_SAMPLER);
-    set_stage_bits(&in, 3, 1u << DEPTH_SAMPLER);
-    set_stage_bits(&in, 4, 1u << FETCH4 | 1u << FETCH4_ALPHA);
-    set_stage_bits(&in, 5, 1u << DEPTH_FETCH);
-    set_stage_bits(&in, 6, 1u << VOLUME);
-    set_stage_bits(&in, 7, 1u << CUBE);
+    set_stage(&in, 2, (struct combiner){OP(DOTPRODUCT3), ARG(TEXTURE), ARG(TEMP)}, kept, YUZUKNOLL_STAGE_TEXTURED | YUZUKNOLL_STAGE_TO_TEMP);
+    set_stage(&in, 3, (struct combiner){OP(MODULATEALPHA_ADDCOLOR), ARG(TEXTURE), ARG(TFACTOR)},
+              (struct combiner){OP(ADDSMOOTH), ARG(SPECULAR), ARG(CONSTANT)}, YUZUKNOLL_STAGE_TEXTURED);
+    set_stage_bits(&in, 2, 1u << MASK(DEPTH_SAMPLER));
+    set_stage_bits(&in, 3, 1u << MASK(DEPTH_SAMPLER));
+    set_stage_bits(&in, 4, 1u << MASK(FETCH4) | 1u << MASK(FETCH4_ALPHA));
+    set_stage_bits(&in, 5, 1u << MASK(DEPTH_FETCH));
+    set_stage_bits(&in, 6, 1u << MASK(VOLUME));
+    set_stage_bits(&in, 7, 1u << MASK(CUBE));
     set_projected(&in, 1 << 1 | 1 << 3 | 1 << 5 | 1 << 6);
     set_specular(&in, 1);
-    set_fog(&in, 1, 2);
-    set_alpha_function(&in, 5);
+    set_fog(&in, YUZUKNOLL_FOG_EXP, YUZUKNOLL_FOG_EXP2);
+    set_alpha_function(&in, YUZUKNOLL_CMP_GREATER);
     set_sample_mask(&in, 5);
     set_flags(&in, ALL_FLAGS);
     return in;

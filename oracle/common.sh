@@ -27,10 +27,10 @@ need_rust() {
 
 # Proves and makes the archive where it is missing; YUZUKNOLL_LIB names another one.
 need_archive() {
-    YUZUKNOLL_LIB=${YUZUKNOLL_LIB:-${here%/*}/target/staticlib/libservice.a}
+    YUZUKNOLL_LIB=${YUZUKNOLL_LIB:-${here%/*}/target/staticlib/libyuzuknoll.a}
     export YUZUKNOLL_LIB
     [ -f "$YUZUKNOLL_LIB" ] && return
-    (cd "$here/.." && rt staticlib service) >"$log" 2>&1 && return
+    (cd "$here/.." && rt staticlib yuzuknoll) >"$log" 2>&1 && return
     cat "$log"
     fail "no archive"
 }

@@ -1,15 +1,15 @@
-//! Links the archive that `rt staticlib service` makes: `YUZUKNOLL_LIB` names its path, else it is the repository's.
+//! Links the archive that `rt staticlib yuzuknoll` makes: the one that `YUZUKNOLL_LIB` names, or else the repository's.
 
 use std::{env, fs, path::PathBuf};
 
-const DEFAULT: &str = "../target/staticlib/libservice.a";
+const DEFAULT: &str = "../target/staticlib/libyuzuknoll.a";
 
 fn main() {
     println!("cargo:rerun-if-env-changed=YUZUKNOLL_LIB");
     let path = env::var_os("YUZUKNOLL_LIB").map_or_else(|| DEFAULT.into(), PathBuf::from);
     let path = fs::canonicalize(&path).unwrap_or_else(|e| {
         panic!(
-            "no archive at {}: {e}; make it by `rt staticlib service`",
+            "no archive at {}: {e}; make it by `rt staticlib yuzuknoll`",
             path.display()
         )
     });

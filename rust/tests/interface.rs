@@ -1,227 +1,467 @@
-//! Each function on records at the edges: what it answers, and what it leaves.
+//! Each call at its edges: what it answers, which refusals it meets, and that a refusal leaves every lent byte and number as it was.
 
 use yuzuknoll::{
-    Applied, Emitted, HELD_LENGTH, Held, KEY_LENGTH, Kind, Record, Refusal, TEXT_LENGTH, emit,
-    packed, read, write,
+    Applied, Argument, Combiner, Comparison, Entry, FogMode, Key, Kind, Mask, Op, Record, Refusal,
+    Session, Stage, StageFlags, TEXT_LENGTH, Variant, VariantFlags, emit, raw,
 };
 
-/// MODULATE of texture and diffuse, then disabled stages.
-fn key() -> Vec<u8> {
-    let mut record = vec![0; 59];
-    record[..8].copy_from_slice(&[1, 4, 2, 0, 1, 0, 0, 1]);
-    for stage in 1..8 {
-        record[1 + 7 * stage] = 1;
-    }
-    record
+/// MODULATE of texture and diffuse.
+fn key() -> Key {
+    Key::of([Stage {
+        colour: Combiner::new(Op::MODULATE, Argument::TEXTURE, Argument::DIFFUSE),
+        flags: StageFlags::TEXTURED,
+        ..Stage::DISABLED
+    }])
 }
 
-fn variant() -> Vec<u8> {
-    let mut record = vec![0; 20];
-    record[0] = 2;
-    record
+fn variant() -> Variant {
+    Variant::default()
 }
 
-fn entry() -> Vec<u8> {
-    let mut record = vec![0; 34];
-    record[..3].copy_from_slice(&[3, 1, b'm']);
-    record
+fn entry() -> Entry {
+    Entry::new("m").unwrap()
 }
 
-fn all_records() -> [(Kind, Vec<u8>); 4] {
+fn records() -> [Record; 4] {
     [
-        (Kind::Key, key()),
-        (Kind::Variant, variant()),
-        (Kind::Entry, entry()),
-        (Kind::Emit, vec![4]),
+        Record::Key(key()),
+        Record::Variant(variant()),
+        Record::Entry(entry()),
+        Record::Emit,
     ]
 }
 
-fn changed(mut record: Vec<u8>, at: usize, byte: u8) -> Vec<u8> {
-    record[at] = byte;
-    record
+fn changed<const N: usize>(bytes: &[u8; N], at: usize, byte: u8) -> [u8; N] {
+    let mut bytes = *bytes;
+    bytes[at] = byte;
+    bytes
 }
 
-/// A record for each refusal of the reader.
-fn bad_records() -> [(Refusal, Vec<u8>); 8] {
-    [
-        (Refusal::CutShort, Vec::new()),
-        (Refusal::CutShort, key()[..58].to_vec()),
-        (Refusal::UnknownKind, vec![0]),
-        (Refusal::UnknownKind, vec![5; 60]),
-        (Refusal::StageFlags, changed(key(), 56, 4)),
-        (Refusal::SpecularAdd, changed(key(), 57, 2)),
-        (Refusal::VariantFlags, changed(variant(), 19, 64)),
-        (Refusal::EntryName, changed(entry(), 33, b'm')),
-    ]
+fn record(kind: Kind, body: &[u8]) -> Vec<u8> {
+    [&[kind.number()], body].concat()
 }
 
-fn held_all() -> Held {
-    let mut held = Held::new();
-    for record in [key(), variant(), entry()] {
-        held.apply(&record, &mut []).unwrap();
+/// Bytes of a key that are refused, with 3 before 4.
+fn bad_keys() -> Vec<(Refusal, [u8; 58])> {
+    let good = *key().as_bytes();
+    let mut bad = Vec::new();
+    for stage in 0..8 {
+        for bit in 2..8 {
+            let flags = changed(&good, 7 * stage + 6, 1 << bit);
+            bad.push((Refusal::StageFlags, flags));
+            bad.push((Refusal::StageFlags, changed(&flags, 56, 2)));
+        }
     }
-    held
+    bad.extend((2..=255).map(|byte| (Refusal::SpecularAdd, changed(&good, 56, byte))));
+    bad
+}
+
+fn bad_variants() -> Vec<(Refusal, [u8; 19])> {
+    let flags = [64, 128, 192, 255];
+    let bad = flags.map(|flags| {
+        (
+            Refusal::VariantFlags,
+            changed(variant().as_bytes(), 18, flags),
+        )
+    });
+    bad.to_vec()
+}
+
+fn bad_entries() -> Vec<(Refusal, [u8; 33])> {
+    let good = *entry().as_bytes();
+    let mut bad = vec![changed(&good, 0, 0), changed(&good, 0, 2)];
+    bad.extend((33..=255).map(|length| changed(&good, 0, length)));
+    bad.extend(b"0123456789 .-/:@[`{\0\x80\xff".map(|first| changed(&good, 1, first)));
+    bad.extend((2..33).map(|tail| changed(&good, tail, b'm')));
+    bad.into_iter()
+        .map(|entry| (Refusal::EntryName, entry))
+        .collect()
+}
+
+/// Bytes for each refusal of the reader.
+fn bad_records() -> Vec<(Refusal, Vec<u8>)> {
+    let mut bad = vec![(Refusal::CutShort, Vec::new())];
+    for good in records() {
+        let bytes = good.to_vec();
+        for length in 1..bytes.len() {
+            bad.push((Refusal::CutShort, bytes[..length].to_vec()));
+        }
+    }
+    for kind in (0..=255).filter(|kind| !(1..=4).contains(kind)) {
+        bad.push((Refusal::UnknownKind, vec![kind]));
+        bad.push((Refusal::UnknownKind, vec![kind; 60]));
+    }
+    let keys = bad_keys().into_iter();
+    bad.extend(keys.map(|(refusal, body)| (refusal, record(Kind::Key, &body))));
+    let variants = bad_variants().into_iter();
+    bad.extend(variants.map(|(refusal, body)| (refusal, record(Kind::Variant, &body))));
+    let entries = bad_entries().into_iter();
+    bad.extend(entries.map(|(refusal, body)| (refusal, record(Kind::Entry, &body))));
+    bad
+}
+
+/// A session that holds all three, and one text of it.
+fn full() -> Session {
+    let mut session = Session::new();
+    for record in &records()[..3] {
+        let bytes = record.to_vec();
+        let applied = session.apply(&mut bytes.as_slice(), &mut []);
+        assert_eq!(applied, Ok(Applied::Replaced));
+    }
+    session
+}
+
+const EMITTED: raw::Emitted = raw::Emitted {
+    length: 101,
+    mask: 102,
+    rows: 103,
+    lookups: 104,
+    warning: 105,
+};
+const RECORD: raw::Record = raw::Record {
+    kind: 106,
+    taken: 107,
+};
+const APPLIED: raw::Applied = raw::Applied {
+    kind: 108,
+    taken: 109,
+    result: EMITTED,
+};
+
+#[test]
+fn emits_into_buffers_that_hold_the_text() {
+    let mut whole = [0xaa; TEXT_LENGTH];
+    let emission = emit(&key(), &variant(), &entry(), &mut whole).unwrap();
+    assert_eq!(
+        (
+            emission.mask,
+            emission.rows,
+            emission.lookups,
+            emission.warning
+        ),
+        (1, 0, 1, 0)
+    );
+    assert!(
+        emission
+            .as_str()
+            .contains("current = float4(((t0 * in.color0)).rgb, (current).a);")
+    );
+    let text = emission.text.to_owned();
+    let length = text.len();
+    assert!(whole[length..].iter().all(|&b| b == 0xaa));
+    let mut exact = vec![0xaa; length];
+    assert_eq!(
+        emit(&key(), &variant(), &entry(), &mut exact).unwrap().text,
+        text
+    );
+    for short in [length - 1, length / 2, 1, 0] {
+        let mut buffer = vec![0xaa; short];
+        let refused = emit(&key(), &variant(), &entry(), &mut buffer);
+        assert_eq!(refused, Err(Refusal::NoRoom));
+        assert!(buffer.iter().all(|&b| b == 0xaa));
+    }
 }
 
 #[test]
-fn refusals_have_their_numbers() {
-    let numbers = Refusal::ALL.map(Refusal::number);
-    assert_eq!(numbers, [1, 2, 3, 4, 5, 6, 7, 8]);
-    let said = Refusal::EmitTooEarly.to_string();
-    assert_eq!(said, "refused 7: emit before a key, a variant and an entry");
+fn refusals_of_emit_come_in_order_and_leave_all() {
+    let (key, variant, entry) = (
+        *key().as_bytes(),
+        *variant().as_bytes(),
+        *entry().as_bytes(),
+    );
+    let bad_variant = bad_variants()[0].1;
+    let bad_entry = bad_entries()[0].1;
+    let mut calls = Vec::new();
+    for (refusal, bad) in bad_keys() {
+        calls.push((refusal, bad, variant, entry));
+        calls.push((refusal, bad, bad_variant, bad_entry));
+    }
+    for (refusal, bad) in bad_variants() {
+        calls.push((refusal, key, bad, entry));
+        calls.push((refusal, key, bad, bad_entry));
+    }
+    for (refusal, bad) in bad_entries() {
+        calls.push((refusal, key, variant, bad));
+    }
+    for (refusal, key, variant, entry) in calls {
+        for room in [0, TEXT_LENGTH] {
+            let (mut text, mut result) = (vec![0xaa; room], EMITTED);
+            let number = raw::emit(&key, &variant, &entry, &mut text, &mut result);
+            assert_eq!(number, refusal.number());
+            assert_eq!(result, EMITTED);
+            assert!(text.iter().all(|&b| b == 0xaa));
+        }
+    }
+    let (mut text, mut result) = ([0xaa; 700], EMITTED);
+    let number = raw::emit(&key, &variant, &entry, &mut text, &mut result);
+    assert_eq!(number, Refusal::NoRoom.number());
+    assert_eq!((text, result), ([0xaa; 700], EMITTED));
 }
 
 #[test]
-fn reads_each_kind_and_no_byte_behind() {
-    for (kind, mut bytes) in all_records() {
-        let length = bytes.len();
-        assert_eq!(kind.length(), length);
-        assert_eq!(read(&bytes), Ok(Record { kind, length }));
-        bytes.extend([0xff; 7]);
-        assert_eq!(read(&bytes), Ok(Record { kind, length }));
+fn entries_are_names() {
+    for name in ["m", "_", "A9_z", "windscreen", &"x".repeat(32)] {
+        let entry = Entry::new(name).unwrap();
+        assert_eq!(entry.as_str(), name);
+        assert_eq!(entry.to_string(), name);
+        assert_eq!(name.parse(), Ok(entry));
+    }
+    let long = [33, 255, 256, 1000].map(|length| "x".repeat(length));
+    let bad = ["", "9", "a b", "a.b", "a\0", "é", "ä"].into_iter();
+    for name in bad.chain(long.iter().map(String::as_str)) {
+        assert_eq!(Entry::new(name), Err(Refusal::EntryName), "{name:?}");
+    }
+}
+
+#[test]
+fn flags_are_known_bits() {
+    for bits in 0..=255 {
+        let stage = StageFlags::from_bits(bits);
+        assert_eq!(stage.map(StageFlags::bits).ok(), (bits < 4).then_some(bits));
+        assert!(bits < 4 || stage == Err(Refusal::StageFlags));
+        let variant = VariantFlags::from_bits(bits);
         assert_eq!(
-            packed::read(&bytes),
-            (kind as u64) << 8 | (length as u64) << 16
+            variant.map(VariantFlags::bits).ok(),
+            (bits < 64).then_some(bits)
         );
+        assert!(bits < 64 || variant == Err(Refusal::VariantFlags));
     }
 }
 
-#[test]
-fn reads_nothing_that_is_refused() {
-    for (refusal, bytes) in bad_records() {
-        assert_eq!(read(&bytes), Err(refusal));
-        assert_eq!(packed::read(&bytes), refusal.number().into());
+/// Values with every byte different from its neighbours, so that a swapped field shows.
+fn unlike() -> [Record; 4] {
+    let combiner = |n| Combiner::new(Op(n), Argument(n + 1), Argument(n + 2));
+    let mut key = Key {
+        specular: true,
+        projected: 0xa5,
+        ..Key::default()
+    };
+    for (stage, n) in key.stages.iter_mut().zip(0..) {
+        *stage = Stage {
+            colour: combiner(10 * n),
+            alpha: combiner(10 * n + 3),
+            flags: StageFlags::from_bits(n % 4).unwrap(),
+        };
     }
+    let variant = Variant {
+        alpha_function: Comparison::NOTEQUAL,
+        fog_mode: FogMode::LINEAR,
+        fog_table_mode: FogMode::EXP2,
+        depth_sampler: Mask::from_bits(0x0102),
+        depth_fetch: Mask::from_bits(0x0304),
+        fetch4: Mask::from_bits(0x0506),
+        fetch4_alpha: Mask::from_bits(0x0708),
+        raw_depth_red: Mask::from_bits(0x090a),
+        volume: Mask::from_bits(0x0b0c),
+        cube: Mask::from_bits(0x0d0e),
+        sample_mask: 0x0f,
+        flags: VariantFlags::FLAT_SHADE | VariantFlags::FOG_SOURCE_W,
+    };
+    let entry = Entry::new("abcdefghijklmnopqrstuvwxyz_01234").unwrap();
+    [key.into(), variant.into(), entry.into(), Record::Emit]
 }
 
 #[test]
-fn writes_what_it_reads() {
-    for (kind, bytes) in all_records() {
-        let length = bytes.len();
+fn reads_what_is_written_and_no_byte_behind() {
+    for record in records().into_iter().chain(unlike()) {
+        let kind = record.kind();
+        let length = kind.record_length();
         for room in length..length + 3 {
             let mut out = vec![0xaa; room];
-            assert_eq!(write(&bytes, &mut out), Ok(Record { kind, length }));
-            assert_eq!(out[..length], bytes);
+            assert_eq!(record.write(&mut out), Ok(length));
+            assert_eq!(out[..length], record.to_vec());
             assert!(out[length..].iter().all(|&b| b == 0xaa));
+            let mut rest = out.as_slice();
+            assert_eq!(Record::read(&mut rest), Ok(record));
+            assert_eq!(rest, &out[length..]);
+            let (mut read, mut written) = (RECORD, RECORD);
+            assert_eq!(raw::read(&out, &mut read), 0);
+            assert_eq!(raw::write(&out, &mut vec![0; length], &mut written), 0);
+            let expected = raw::Record {
+                kind: kind.number().into(),
+                taken: length as u64,
+            };
+            assert_eq!((read, written), (expected, expected));
+        }
+        for room in 0..length {
+            let mut out = vec![0xaa; room];
+            assert_eq!(record.write(&mut out), Err(Refusal::NoRoom));
+            assert!(out.iter().all(|&b| b == 0xaa));
         }
     }
 }
 
 #[test]
-fn writes_nothing_that_is_refused() {
-    for (kind, bytes) in all_records() {
-        let mut out = vec![0xaa; kind.length() - 1];
-        assert_eq!(write(&bytes, &mut out), Err(Refusal::NoRoom));
-        assert!(out.iter().all(|&b| b == 0xaa));
-    }
+fn refusals_of_read_and_write_leave_all() {
     for (refusal, bytes) in bad_records() {
-        let mut out = [0xaa; 80];
-        assert_eq!(write(&bytes, &mut out), Err(refusal));
-        assert_eq!(write(&bytes, &mut []), Err(refusal));
-        assert_eq!(out, [0xaa; 80]);
+        let mut rest = bytes.as_slice();
+        assert_eq!(Record::read(&mut rest), Err(refusal), "{bytes:02x?}");
+        assert_eq!(rest, bytes);
+        let mut report = RECORD;
+        assert_eq!(raw::read(&bytes, &mut report), refusal.number());
+        for room in [0, 80] {
+            let mut out = vec![0xaa; room];
+            let number = raw::write(&bytes, &mut out, &mut report);
+            assert_eq!(number, refusal.number());
+            assert!(out.iter().all(|&b| b == 0xaa));
+        }
+        assert_eq!(report, RECORD);
     }
+    let mut report = RECORD;
+    let number = raw::write(&[4], &mut [], &mut report);
+    assert_eq!((number, report), (Refusal::NoRoom.number(), RECORD));
 }
 
 #[test]
 fn holds_what_is_applied() {
-    let mut held = Held::default();
+    let mut session = Session::default();
+    assert_eq!(session.as_bytes(), &[0; 113]);
     assert_eq!(
-        (held.key(), held.variant(), held.entry()),
+        (session.key(), session.variant(), session.entry()),
         (None, None, None)
     );
-    assert_eq!(held.apply(&key(), &mut []), Ok(Applied::Replaced(59)));
-    assert_eq!(held.apply(&variant(), &mut []), Ok(Applied::Replaced(20)));
-    assert_eq!(held.apply(&entry(), &mut []), Ok(Applied::Replaced(34)));
-    assert_eq!(held.key(), Some(&key()[..]));
-    assert_eq!(held.variant(), Some(&variant()[..]));
-    assert_eq!(held.entry(), Some(&entry()[..]));
-    assert_eq!(held.as_bytes()[..], [key(), variant(), entry()].concat());
+    for (n, record) in unlike()[..3].iter().enumerate() {
+        let bytes = [record.to_vec(), vec![0xff; 5]].concat();
+        let mut rest = bytes.as_slice();
+        assert_eq!(session.apply(&mut rest, &mut []), Ok(Applied::Replaced));
+        assert_eq!(rest, [0xff; 5]);
+        assert!(session.key().is_some());
+        assert_eq!(session.variant().is_some(), n >= 1);
+        assert_eq!(session.entry().is_some(), n >= 2);
+    }
+    let [
+        Record::Key(key),
+        Record::Variant(variant),
+        Record::Entry(entry),
+        _,
+    ] = unlike()
+    else {
+        panic!("in this order");
+    };
+    assert_eq!(session.key(), Some(key));
+    assert_eq!(session.variant(), Some(variant));
+    assert_eq!(session.entry(), Some(entry));
+    let all = unlike().map(|record| record.to_vec()).concat();
+    assert_eq!(session.as_bytes()[..], all[..113]);
+    assert_eq!(Session::from_bytes(*session.as_bytes()), session);
+}
+
+#[test]
+fn reports_of_apply() {
+    let mut held = [0; 113];
+    let mut text = [0; TEXT_LENGTH];
+    for record in records() {
+        let mut applied = APPLIED;
+        let bytes = record.to_vec();
+        assert_eq!(raw::apply(&mut held, &bytes, &mut text, &mut applied), 0);
+        let kind = record.kind();
+        assert_eq!(applied.kind, kind.number().into());
+        assert_eq!(applied.taken, kind.record_length() as u64);
+        let mut result = raw::Emitted::default();
+        if kind == Kind::Emit {
+            let (key, variant, entry) = (key(), variant(), entry());
+            let number = raw::emit(
+                key.as_bytes(),
+                variant.as_bytes(),
+                entry.as_bytes(),
+                &mut [0; TEXT_LENGTH],
+                &mut result,
+            );
+            assert_eq!(number, 0);
+        }
+        assert_eq!(applied.result, result);
+    }
 }
 
 #[test]
 fn emits_the_text_of_what_is_held() {
     let mut direct = [0xaa; TEXT_LENGTH];
-    let emitted = emit(&key(), &variant(), &entry(), &mut direct).unwrap();
-    let Emitted {
-        length,
-        mask,
-        rows,
-        lookups,
-        warning,
-    } = emitted;
-    assert_eq!((mask, rows, lookups, warning), (1, 0, 1, 0));
-    let text = emitted.text(&direct).unwrap();
-    assert!(text.contains("current = float4(((t0 * in.color0)).rgb, (current).a);"));
-    assert!(text.ends_with("    return oC0;\n}\n"));
-    assert!(direct[length..].iter().all(|&b| b == 0xaa));
-    assert_eq!(emitted.text(&direct[..length - 1]), None);
-
-    let mut held = held_all();
-    let before = held;
+    let expected = emit(&key(), &variant(), &entry(), &mut direct).unwrap();
+    let length = expected.text.len();
+    let mut session = full();
     let mut buffer = [0xaa; TEXT_LENGTH];
-    let applied = held.apply(&[4, 9, 9], &mut buffer).unwrap();
-    assert_eq!(applied, Applied::Text(1, emitted));
-    assert_eq!(applied.taken(), 1);
-    assert_eq!((held, buffer), (before, direct));
-    assert_eq!(held.apply(&[4], &mut buffer[..length]), Ok(applied));
+    let mut rest = &[4, 9, 9][..];
+    let applied = session.apply(&mut rest, &mut buffer);
+    assert_eq!(applied, Ok(Applied::Text(expected)));
+    assert_eq!(rest, [9, 9]);
+    assert_eq!(session, full());
+    assert_eq!(buffer, direct);
+    let applied = session.apply(&mut &[4][..], &mut buffer[..length]);
+    assert!(matches!(applied, Ok(Applied::Text(_))));
 }
 
 #[test]
 fn refusals_of_apply_leave_all() {
     let mut text = [0xaa; 100];
-    for (refusal, bytes) in bad_records() {
-        let mut held = held_all();
-        assert_eq!(held.apply(&bytes, &mut text), Err(refusal));
-        assert_eq!(held, held_all());
+    let mut bad = bad_records();
+    bad.push((Refusal::NoRoom, vec![Kind::Emit.number()]));
+    for (refusal, bytes) in bad {
+        let mut session = full();
+        let mut rest = bytes.as_slice();
+        assert_eq!(session.apply(&mut rest, &mut text), Err(refusal));
+        assert_eq!((rest, session), (bytes.as_slice(), full()));
+        let (mut held, mut applied) = (*full().as_bytes(), APPLIED);
+        let number = raw::apply(&mut held, &bytes, &mut text, &mut applied);
+        assert_eq!(number, refusal.number());
+        assert_eq!((held, applied), (*full().as_bytes(), APPLIED));
     }
-    let mut held = held_all();
-    assert_eq!(held.apply(&[4], &mut text), Err(Refusal::NoRoom));
-    assert_eq!(held, held_all());
     assert_eq!(text, [0xaa; 100]);
 }
 
 #[test]
 fn emits_only_with_all_three() {
     for given in 0..7 {
-        let mut held = Held::new();
-        for (n, record) in [key(), variant(), entry()].iter().enumerate() {
+        let mut session = Session::new();
+        for (n, record) in records()[..3].iter().enumerate() {
             if given >> n & 1 != 0 {
-                held.apply(record, &mut []).unwrap();
+                session
+                    .apply(&mut record.to_vec().as_slice(), &mut [])
+                    .unwrap();
             }
         }
-        let before = held;
-        let refused = held.apply(&[4], &mut [0; TEXT_LENGTH]);
-        assert_eq!(refused, Err(Refusal::EmitTooEarly));
-        assert_eq!(held, before);
+        for room in [0, TEXT_LENGTH] {
+            let before = session;
+            let refused = session.apply(&mut &[4][..], &mut vec![0; room]).err();
+            assert_eq!(refused, Some(Refusal::EmitTooEarly));
+            assert_eq!(session, before);
+        }
     }
 }
 
-/// A part that is no good record of its kind counts as not there, and stays until it is replaced.
+/// A part that is no good record of its kind counts as not held, and stays until it is replaced.
 #[test]
-fn parts_that_are_not_good_are_not_there() {
-    for at in [0, 7, 57, 59, 78, 79, 80, 112] {
-        let mut bytes = *held_all().as_bytes();
-        bytes[at] = 0xff;
-        let mut held = Held::from_bytes(bytes);
-        let refused = held.apply(&[4], &mut [0; TEXT_LENGTH]);
-        assert_eq!(refused, Err(Refusal::EmitTooEarly), "byte {at}");
-        assert_eq!(*held.as_bytes(), bytes);
-        if at >= KEY_LENGTH {
-            held.apply(&key(), &mut []).unwrap();
-            assert_eq!(*held.as_bytes(), bytes);
+fn parts_that_are_not_good_are_not_held() {
+    for (at, byte) in [
+        (0, 0xff),
+        (0, 2),
+        (7, 4),
+        (57, 2),
+        (59, 1),
+        (59, 0),
+        (78, 64),
+        (79, 2),
+        (80, 0),
+        (81, b'.'),
+        (112, 1),
+    ] {
+        let bytes = changed(full().as_bytes(), at, byte);
+        let mut session = Session::from_bytes(bytes);
+        let missing = [
+            session.key().is_none(),
+            session.variant().is_none(),
+            session.entry().is_none(),
+        ];
+        assert_eq!(missing, [at < 59, (59..79).contains(&at), at >= 79]);
+        let refused = session.apply(&mut &[4][..], &mut [0; TEXT_LENGTH]).err();
+        assert_eq!(refused, Some(Refusal::EmitTooEarly), "byte {at}");
+        assert_eq!(*session.as_bytes(), bytes);
+        for (part, record) in records()[..3].iter().enumerate() {
+            let before = *session.as_bytes();
+            session
+                .apply(&mut record.to_vec().as_slice(), &mut [])
+                .unwrap();
+            assert!(missing[part] || *session.as_bytes() == before);
         }
-        for record in [key(), variant(), entry()] {
-            held.apply(&record, &mut []).unwrap();
-        }
-        assert_eq!(held, held_all());
-    }
-}
-
-#[test]
-fn held_has_one_length() {
-    for length in [0, HELD_LENGTH - 1, HELD_LENGTH + 1] {
-        let mut held = vec![0; length];
-        assert_eq!(packed::apply(&mut held, &key(), &mut []), 1);
-        assert!(held.iter().all(|&b| b == 0));
+        assert_eq!(session, full());
     }
 }

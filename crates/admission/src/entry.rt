@@ -9,7 +9,7 @@ ghost use mathlib.Core.Bool.{cond};
 ghost use Rattle.values.specs.Entries.{entryGood};
 ghost use Rattle.admission.specs.Pass.{possibleIn, right, started, stepped};
 
-const LONGEST_NAME: u8 = 32;
+const NAME_BYTES: u8 = 32;
 
 pub fn start() -> Pass
     ensures { λ r. ⌜ r ≡ started ⌝ }
@@ -28,8 +28,8 @@ fn right_at(at: u8, length: u8, c: u8) -> bool
     let name = (at == 1) & starts_name(c)
         | (at != 1)
             & ((at <= length) & continues_name(c)
-                | !(at <= length) & ((at <= LONGEST_NAME) & (c == 0)));
-    (at == 0) & between(1, c, LONGEST_NAME) | (at != 0) & name
+                | !(at <= length) & ((at <= NAME_BYTES) & (c == 0)));
+    (at == 0) & between(1, c, NAME_BYTES) | (at != 0) & name
 }
 
 fn either(first: bool, a: u8, b: u8) -> u8

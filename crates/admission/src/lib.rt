@@ -12,6 +12,13 @@ ghost use lib.Dec.{leb};
 ghost use Rattle.values.specs.Flags.{stageFlagsBad, variantFlagsBad};
 ghost use Rattle.values.specs.Entries.{continuesName, isLetter, startsName};
 
+const STAGES: usize = 8;
+
+// The lowest flag bit without a meaning: bit 2 of a stage, bit 6 of a variant.
+const UNUSED_STAGE_FLAG: u8 = 4;
+
+const UNUSED_VARIANT_FLAG: u8 = 64;
+
 // Where a pass over an entry's body stands: how many bytes were taken, the length byte, and 1 once a byte was wrong.
 pub struct Pass {
     pub taken: u8,
@@ -23,9 +30,9 @@ pub fn stage_flags_bad(key: Key) -> bool
     ensures { λ r. ⌜ r ≡ stageFlagsBad (key .stages) ⌝ }
 {
     let mut i = 0;
-    while i < 8 {
+    while i < STAGES {
         let s = key.stages[i];
-        if 4 <= s.flags {
+        if UNUSED_STAGE_FLAG <= s.flags {
             return true;
         }
         i += 1;
@@ -36,7 +43,7 @@ pub fn stage_flags_bad(key: Key) -> bool
 pub fn variant_flags_bad(variant: Variant) -> bool
     ensures { λ r. ⌜ r ≡ variantFlagsBad variant ⌝ }
 {
-    64 <= variant.flags
+    UNUSED_VARIANT_FLAG <= variant.flags
 }
 
 fn between(low: u8, c: u8, high: u8) -> bool

@@ -1,6 +1,6 @@
 -- A rule that asks first for what few stages have: where that is missing the rule fails, whatever else it asks.
 use mathlib.Core.Bool.{Bool, true, false, not, _&&_, _||_, true≢false}
-use mathlib.Core.Path.{_≡_, refl, sym}
+use mathlib.Core.Path.{_≡_, refl, sym, _∙_}
 
 pub neither : (u v : Bool) → not (u || v) ≡ true → (u ≡ false) × (v ≡ false)
 neither true v e = absurd (true≢false (sym e))
@@ -10,3 +10,11 @@ neither false false e = (refl, refl)
 pub and-false : (x : Bool) → (x && false) ≡ false
 and-false true = refl
 and-false false = refl
+
+-- u and v are what was asked first, x and y the same in the rule
+pub missing : (p q x y u v : Bool) → u ≡ x → v ≡ y → not (u || v) ≡ true → false ≡ (p && x) || (q && y)
+missing p q x y u v f g e = let n = neither u v e in rw (sym f ∙ n .0, sym g ∙ n .1, and-false, and-false)
+
+pub absent : (p x u : Bool) → u ≡ x → not u ≡ true → false ≡ p && x
+absent p x true f e = absurd (true≢false (sym e))
+absent p x false f e = rw (sym f, and-false)

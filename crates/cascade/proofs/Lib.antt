@@ -1,4 +1,4 @@
 pub mod Active
-pub mod Guards
+mod Guards
 mod PlainStages
-pub mod Rest
+mod Walking

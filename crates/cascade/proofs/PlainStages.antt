@@ -1,85 +1,66 @@
 -- What plain arguments keep out of a stage.
-use Prim.Native.Nat.{ℕ, _<_, _%_}
+use Prim.Native.Nat.{ℕ, _<_, _≤_}
 use mathlib.Core.Bool.{Bool, true, false, not, _&&_, _||_, cond, true≢false}
 use mathlib.Core.Path.{_≡_, refl, sym}
 use native.Mathlib.Omega.{arith}
-use borrow.Author.Tests.{ne-eqb, lt-leb, ltb-true, eqb-false, eqb-true, not-true}
-use lib.Dec.{eqb, ltb}
-use Rattle.combiners.specs.Codes.{constant, factor, temp}
-use Rattle.cascade.specs.Keys.{selects, either, reads, blendsByFactor, namesFactor, readsConstant}
+use borrow.Author.Tests.{ne-eqb, lt-leb, ltb-true, leb-true, eqb-true, not-true}
+use lib.Dec.{eqb, leb, ltb}
+use Rattle.combiners.specs.Codes.{selector, constant, temp}
+use Rattle.cascade.specs.Keys.{reads, readsConstant, blendsByFactor, namesFactor}
 use Rattle.cascade.specs.Reading.{keeps, readsTemp}
-use Rattle.cascade.specs.Warnings.{unknownModifier, unknownSelector, warns}
+use Rattle.cascade.specs.Warnings.{warns}
+use Rattle.cascade.specs.Plain.{PlainArgument, PlainCombiner, PlainStage}
 use Rattle.values.specs.declared.Combiner.{Combiner}
 use Rattle.values.specs.declared.Stage.{Stage}
 use Rattle.cascade.proofs.Guards.{and-false}
 
-both : (a b : Bool) → (a && b) ≡ true → (a ≡ true) × (b ≡ true)
+pub both : (a b : Bool) → (a && b) ≡ true → (a ≡ true) × (b ≡ true)
 both true b e = (refl, e)
 both false b e = absurd (true≢false (sym e))
 
-pub all-four : (a b c d : Bool) → ((a && b) && (c && d)) ≡ true → (a ≡ true) × (b ≡ true) × (c ≡ true) × (d ≡ true)
-all-four a b c d e =
-    let l = both a b (both (a && b) (c && d) e .0) in
-    let r = both c d (both (a && b) (c && d) e .1) in
-    (l .0, l .1, r .0, r .1)
+-- an argument below 64 whose selector is at most 4 and not 3
+pub plain-argument : (a : ℕ) → (ltb a 64 && (leb (selector a) 4 && not (eqb (selector a) 3))) ≡ true → PlainArgument a
+plain-argument a h =
+    let small = both (ltb a 64) _ h in
+    let low = both (leb (selector a) 4) _ (small .1) in
+    let m : a < 64 = ltb-true a 64 (small .0) in
+    let s : selector a ≤ 4 = leb-true (selector a) 4 (low .0) in
+    record {
+      factor = not-true _ (low .1);
+      temp = ne-eqb (selector a) 5 (λ e. omega arith);
+      constant = ne-eqb (selector a) 6 (λ e. omega arith);
+      selector = lt-leb 7 (selector a) (omega arith);
+      modifier = lt-leb 64 a (omega arith);
+    }
 
--- an argument that selects none of three, and one that warns of nothing
-abbrev pub Selected : ℕ → Type 0
-Selected a = (selects factor a ≡ false) × (selects temp a ≡ false) × (selects constant a ≡ false)
-
-abbrev pub Known : ℕ → Type 0
-Known a = (unknownSelector a ≡ false) × (unknownModifier a ≡ false)
-
-module _ (a : ℕ) (h : (ltb a 64 && (ltb (a % 16) 5 && not (eqb (a % 16) 3))) ≡ true) where
-  small : a < 64
-  small = ltb-true a 64 (both (ltb a 64) (ltb (a % 16) 5 && not (eqb (a % 16) 3)) h .0)
-
-  low : (a % 16 < 5) × (a % 16 ≡ 3 → ⊥)
-  low =
-      let g = both (ltb (a % 16) 5) (not (eqb (a % 16) 3)) (both (ltb a 64) (ltb (a % 16) 5 && not (eqb (a % 16) 3)) h .1) in
-      (ltb-true (a % 16) 5 (g .0), eqb-false (a % 16) 3 (not-true _ (g .1)))
-
-  pub selected : Selected a
-  selected =
-      let five : a % 16 ≡ 5 → ⊥ = λ e. omega (arith, low .0) in
-      let six : a % 16 ≡ 6 → ⊥ = λ e. omega (arith, low .0) in
-      (ne-eqb (a % 16) 3 (low .1), ne-eqb (a % 16) 5 five, ne-eqb (a % 16) 6 six)
-
-  pub known : Known a
-  known = (lt-leb 7 (a % 16) (omega (arith, low .0)), lt-leb 64 a (omega (arith, small)))
-
--- a combiner of two plain arguments
-module _ (c : Combiner) (p : Selected (c .arg1)) (q : Selected (c .arg2)) where
+module _ (c : Combiner) (p : PlainCombiner c) where
   no-constant : reads constant c ≡ false
   unfolding reads
-  no-constant = rw (p .2, q .2, and-false, and-false)
+  no-constant = rw (p .first .constant, p .second .constant, and-false, and-false)
 
   no-temp : (t : Bool) → keeps temp t c ≡ false
   unfolding keeps
-  no-temp t = rw (p .1, q .1, and-false, and-false)
+  no-temp t = rw (p .first .temp, p .second .temp, and-false, and-false)
 
--- a stage of two such combiners
-module _ (s : Stage) (p : Selected (s .colour .arg1)) (q : Selected (s .colour .arg2)) (u : Selected (s .alpha .arg1)) (v : Selected (s .alpha .arg2)) where
-  pub reads-none : (readsConstant s ≡ false) × (readsTemp s ≡ false)
-  unfolding readsConstant readsTemp
-  reads-none = (
-    rw (no-constant (s .colour) p q, no-constant (s .alpha) u v, and-false, and-false, and-false),
-    rw (no-temp (s .colour) p q, no-temp (s .alpha) u v, and-false, and-false, and-false),
-  )
-
-  pub names-by-op : namesFactor s ≡ blendsByFactor s
+module _ (s : Stage) (p : PlainCombiner (s .colour)) (q : PlainCombiner (s .alpha)) where
+  names : namesFactor s ≡ blendsByFactor s
   unfolding namesFactor
-  names-by-op = rw (p .0, q .0, u .0, v .0, and-false, or-false)
+  names = rw (p .first .factor, p .second .factor, q .first .factor, q .second .factor, and-false, or-false)
     where
       or-false : (x : Bool) → (x || false) ≡ x
       or-false true = refl
       or-false false = refl
 
-pub warns-none : (s : Stage) → Known (s .colour .arg1) → Known (s .colour .arg2) → Known (s .alpha .arg1) → Known (s .alpha .arg2)
-    → (warns (either unknownSelector) s ≡ false) × (warns (either unknownModifier) s ≡ false)
-unfolding warns
-warns-none s p q u v =
-    (rw (p .0, q .0, u .0, v .0, and-false, and-false), rw (p .1, q .1, u .1, v .1, and-false, and-false))
+  pub plain-stage : PlainStage s
+  unfolding readsConstant readsTemp warns
+  plain-stage =
+      record {
+        factor = names;
+        temp = rw (no-temp (s .colour) p, no-temp (s .alpha) q, and-false, and-false, and-false);
+        constant = rw (no-constant (s .colour) p, no-constant (s .alpha) q, and-false, and-false, and-false);
+        selector = rw (p .first .selector, p .second .selector, q .first .selector, q .second .selector, and-false, and-false);
+        modifier = rw (p .first .modifier, p .second .modifier, q .first .modifier, q .second .modifier, and-false, and-false);
+      }
 
 -- the row count of the last constant, where this stage reads none
 pub kept-constant : (n m : ℕ) → n ≡ cond (eqb n 0) (cond false m 0) n

@@ -3,4 +3,5 @@ pub mod Stages
 pub mod Reading
 pub mod Warnings
 pub mod Survey
+pub mod Plain
 pub mod Walks

@@ -2,6 +2,7 @@
 use crate::Alpha;
 use crate::Decoded;
 use crate::Expressions;
+use crate::codes::D3DTOP_DISABLE;
 use crate::keys::alpha_from_colour;
 use crate::keys::falls_back;
 use crate::keys::is_bump;
@@ -64,7 +65,7 @@ fn alpha_of(s: Stage) -> Alpha
     if alpha_from_colour(s) {
         return Alpha::FromColour;
     }
-    if a.op == 1 {
+    if a.op == D3DTOP_DISABLE {
         return Alpha::Kept;
     }
     if falls_back(t, a) {

@@ -1,36 +1,54 @@
 //! What a stage and its combiners say by themselves: textures, reads, fallback, bump, constants; and the count of active stages.
 //!
 //! Most arguments select neither the constant nor TEMP, so each rule asks for that first.
+use crate::codes::D3DTA_CONSTANT;
+use crate::codes::D3DTA_TEXTURE;
+use crate::codes::D3DTA_TFACTOR;
+use crate::codes::D3DTOP_BLENDFACTORALPHA;
+use crate::codes::D3DTOP_BUMPENVMAP;
+use crate::codes::D3DTOP_BUMPENVMAPLUMINANCE;
+use crate::codes::D3DTOP_DISABLE;
+use crate::codes::D3DTOP_DOTPRODUCT3;
+use crate::codes::D3DTOP_SELECTARG1;
+use crate::codes::D3DTOP_SELECTARG2;
+use crate::codes::SELECTORS;
 use values::Combiner;
 use values::Key;
 use values::Stage;
 ghost use mathlib.Core.Path.{_≡_};
-ghost use Rattle.cascade.specs.Keys.{textured, toTemp, activeCount, reads, fallsBack, isBumpOp, bump, alphaFromColour, readsConstant, namesFactor, selects};
+ghost use Rattle.cascade.specs.Keys.{textured, toTemp, activeCount, readsFirst, readsSecond, selects, either, reads, fallsBack, isBumpOp, bump, alphaFromColour, readsConstant, blendsByFactor, namesFactor};
+
+const STAGES: usize = 8;
+
+// The flags of a stage.
+const HAS_TEXTURE: u8 = 1;
+
+const RESULT_TEMP: u8 = 2;
 
 pub fn textured(s: Stage) -> bool
     ensures { λ r. ⌜ r ≡ textured s ⌝ }
 {
-    s.flags % 2 == 1
+    s.flags / HAS_TEXTURE % 2 == 1
 }
 
 pub fn to_temp(s: Stage) -> bool
     ensures { λ r. ⌜ r ≡ toTemp s ⌝ }
 {
-    s.flags / 2 % 2 == 1
+    s.flags / RESULT_TEMP % 2 == 1
 }
 
 // The active stages end before the first whose colour op is DISABLE.
-pub fn active_count(k: Key) -> usize
+pub(crate) fn active_count(k: Key) -> usize
     ensures { λ r. ⌜ r ≡ activeCount (k .stages) ⌝ }
 {
     let mut i = 0;
     let n = loop {
-        if i == 8 {
-            break 8;
+        if i == STAGES {
+            break STAGES;
         }
         let s = k.stages[i];
         let c = s.colour;
-        if c.op == 1 {
+        if c.op == D3DTOP_DISABLE {
             break i;
         }
         i += 1;
@@ -38,79 +56,104 @@ pub fn active_count(k: Key) -> usize
     n
 }
 
-pub fn selects(selector: u8, arg: u8) -> bool
+fn reads_first(op: u8) -> bool
+    ensures { λ r. ⌜ r ≡ readsFirst op ⌝ }
+{
+    !((op == D3DTOP_DISABLE) | (op == D3DTOP_SELECTARG2))
+}
+
+fn reads_second(op: u8) -> bool
+    ensures { λ r. ⌜ r ≡ readsSecond op ⌝ }
+{
+    !((op == D3DTOP_DISABLE) | (op == D3DTOP_SELECTARG1))
+}
+
+pub(crate) fn selects(selector: u8, arg: u8) -> bool
     ensures { λ r. ⌜ r ≡ selects selector arg ⌝ }
 {
-    arg % 16 == selector
+    arg % SELECTORS == selector
 }
 
-pub fn reads(selector: u8, c: Combiner) -> bool
+fn either_selects(selector: u8, c: Combiner) -> bool
+    ensures { λ r. ⌜ r ≡ either (selects selector) c ⌝ }
+{
+    selects(selector, c.arg1) | selects(selector, c.arg2)
+}
+
+fn reads(selector: u8, c: Combiner) -> bool
     ensures { λ r. ⌜ r ≡ reads selector c ⌝ }
 {
-    let one = selects(selector, c.arg1);
-    let two = selects(selector, c.arg2);
-    if !(one | two) {
+    let first = selects(selector, c.arg1);
+    let second = selects(selector, c.arg2);
+    if !(first | second) {
         return false;
     }
-    (!((c.op == 1) | (c.op == 3)) & one) | (!((c.op == 1) | (c.op == 2)) & two)
+    (reads_first(c.op) & first) | (reads_second(c.op) & second)
 }
 
-pub fn falls_back(textured: bool, c: Combiner) -> bool
+pub(crate) fn falls_back(textured: bool, c: Combiner) -> bool
     ensures { λ r. ⌜ r ≡ fallsBack textured c ⌝ }
 {
     if textured {
         return false;
     }
-    reads(2, c)
+    reads(D3DTA_TEXTURE, c)
 }
 
-pub fn is_bump_op(op: u8) -> bool
+pub(crate) fn is_bump_op(op: u8) -> bool
     ensures { λ r. ⌜ r ≡ isBumpOp op ⌝ }
 {
-    (op == 22) | (op == 23)
+    (op == D3DTOP_BUMPENVMAP) | (op == D3DTOP_BUMPENVMAPLUMINANCE)
 }
 
 pub fn is_bump(s: Stage) -> bool
     ensures { λ r. ⌜ r ≡ bump s ⌝ }
 {
     let c = s.colour;
-    if !is_bump_op(c.op) {
-        return false;
+    if is_bump_op(c.op) {
+        return !falls_back(textured(s), c);
     }
-    !falls_back(textured(s), c)
+    false
 }
 
-pub fn alpha_from_colour(s: Stage) -> bool
+pub(crate) fn alpha_from_colour(s: Stage) -> bool
     ensures { λ r. ⌜ r ≡ alphaFromColour s ⌝ }
 {
     let c = s.colour;
-    if c.op != 24 {
-        return false;
+    if c.op == D3DTOP_DOTPRODUCT3 {
+        return !falls_back(textured(s), c);
     }
-    !falls_back(textured(s), c)
+    false
 }
 
-pub fn reads_constant(s: Stage) -> bool
+pub(crate) fn reads_constant(s: Stage) -> bool
     ensures { λ r. ⌜ r ≡ readsConstant s ⌝ }
 {
     let c = s.colour;
     let a = s.alpha;
     let t = textured(s);
-    let colour = reads(6, c);
-    let alpha = reads(6, a);
+    let colour = reads(D3DTA_CONSTANT, c);
+    let alpha = reads(D3DTA_CONSTANT, a);
     if !(colour | alpha) {
         return false;
     }
     (!falls_back(t, c) & colour) | (!alpha_from_colour(s) & (!falls_back(t, a) & alpha))
 }
 
-pub fn names_factor(s: Stage) -> bool
+pub(crate) fn blends_by_factor(s: Stage) -> bool
+    ensures { λ r. ⌜ r ≡ blendsByFactor s ⌝ }
+{
+    let c = s.colour;
+    let a = s.alpha;
+    (c.op == D3DTOP_BLENDFACTORALPHA) | (a.op == D3DTOP_BLENDFACTORALPHA)
+}
+
+pub(crate) fn names_factor(s: Stage) -> bool
     ensures { λ r. ⌜ r ≡ namesFactor s ⌝ }
 {
     let c = s.colour;
     let a = s.alpha;
-    let ops = (c.op == 14) | (a.op == 14);
-    let colour = selects(3, c.arg1) | selects(3, c.arg2);
-    let alpha = selects(3, a.arg1) | selects(3, a.arg2);
-    ops | (colour | ((a.op != 1) & alpha))
+    let colour = either_selects(D3DTA_TFACTOR, c);
+    let alpha = either_selects(D3DTA_TFACTOR, a);
+    blends_by_factor(s) | (colour | ((a.op != D3DTOP_DISABLE) & alpha))
 }

@@ -1,9 +1,11 @@
 //! The cascade of a key: its active stages, and what each reads and writes.
+mod codes;
 pub mod decode;
 pub mod keys;
 mod plain;
 pub mod reading;
 pub mod walks;
+mod warnings;
 
 use combiners::Expression;
 

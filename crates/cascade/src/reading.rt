@@ -1,4 +1,16 @@
 //! The reading rule: what the expressions of a stage read, by its key alone.
+use crate::codes::D3DTA_TEMP;
+use crate::codes::D3DTA_TEXTURE;
+use crate::codes::D3DTOP_BLENDCURRENTALPHA;
+use crate::codes::D3DTOP_BLENDTEXTUREALPHA;
+use crate::codes::D3DTOP_BLENDTEXTUREALPHAPM;
+use crate::codes::D3DTOP_BUMPENVMAPLUMINANCE;
+use crate::codes::D3DTOP_DISABLE;
+use crate::codes::D3DTOP_DOTPRODUCT3;
+use crate::codes::D3DTOP_MODULATEALPHA_ADDCOLOR;
+use crate::codes::D3DTOP_MODULATEINVCOLOR_ADDALPHA;
+use crate::codes::D3DTOP_SELECTARG1;
+use crate::codes::D3DTOP_SELECTARG2;
 use crate::keys::alpha_from_colour;
 use crate::keys::falls_back;
 use crate::keys::is_bump_op;
@@ -8,68 +20,76 @@ use crate::keys::to_temp;
 use values::Combiner;
 use values::Stage;
 ghost use mathlib.Core.Path.{_≡_};
-ghost use Rattle.combiners.specs.Combiners.{hasText, keepsFirst, keepsSecond};
+ghost use Rattle.combiners.specs.Combiners.{hasText, keepsFirst, keepsSecond, readsOwnTexel};
 ghost use Rattle.cascade.specs.Reading.{keeps, readsTempBy, readsTexelBy, alphaWritten, readsTemp, readsTexel, lined, luminance};
 
-pub fn has_text(op: u8) -> bool
+pub(crate) fn has_text(op: u8) -> bool
     ensures { λ r. ⌜ r ≡ hasText op ⌝ }
 {
-    ((2 <= op) & (op <= 16)) | (((18 <= op) & (op <= 21)) | (op == 24))
+    // PREMODULATE stands between the two runs.
+    let before = (D3DTOP_SELECTARG1 <= op) & (op <= D3DTOP_BLENDCURRENTALPHA);
+    let behind = (D3DTOP_MODULATEALPHA_ADDCOLOR <= op) & (op <= D3DTOP_MODULATEINVCOLOR_ADDALPHA);
+    before | (behind | (op == D3DTOP_DOTPRODUCT3))
 }
 
 fn keeps_first(textured: bool, op: u8) -> bool
     ensures { λ r. ⌜ r ≡ keepsFirst textured op ⌝ }
 {
-    !((op == 3) | ((op == 13) & !textured))
+    !((op == D3DTOP_SELECTARG2) | ((op == D3DTOP_BLENDTEXTUREALPHA) & !textured))
 }
 
 fn keeps_second(textured: bool, op: u8) -> bool
     ensures { λ r. ⌜ r ≡ keepsSecond textured op ⌝ }
 {
-    has_text(op) & (op != 2)
+    has_text(op) & (op != D3DTOP_SELECTARG1)
 }
 
 fn keeps(selector: u8, textured: bool, c: Combiner) -> bool
     ensures { λ r. ⌜ r ≡ keeps selector textured c ⌝ }
 {
-    let one = selects(selector, c.arg1);
-    let two = selects(selector, c.arg2);
-    if !(one | two) {
+    let first = selects(selector, c.arg1);
+    let second = selects(selector, c.arg2);
+    if !(first | second) {
         return false;
     }
-    (keeps_first(textured, c.op) & one) | (keeps_second(textured, c.op) & two)
+    (keeps_first(textured, c.op) & first) | (keeps_second(textured, c.op) & second)
+}
+
+fn reads_own_texel(textured: bool, op: u8) -> bool
+    ensures { λ r. ⌜ r ≡ readsOwnTexel textured op ⌝ }
+{
+    textured & ((op == D3DTOP_BLENDTEXTUREALPHA) | (op == D3DTOP_BLENDTEXTUREALPHAPM))
 }
 
 fn reads_temp_by(textured: bool, c: Combiner) -> bool
     ensures { λ r. ⌜ r ≡ readsTempBy textured c ⌝ }
 {
-    let kept = keeps(5, textured, c);
-    if !kept {
+    let read = keeps(D3DTA_TEMP, textured, c);
+    if !read {
         return false;
     }
-    !falls_back(textured, c) & kept
+    !falls_back(textured, c) & read
 }
 
 fn reads_texel_by(textured: bool, c: Combiner) -> bool
     ensures { λ r. ⌜ r ≡ readsTexelBy textured c ⌝ }
 {
-    let own = textured & ((c.op == 13) | (c.op == 15));
-    let kept = keeps(2, textured, c) | own;
-    if !kept {
+    let read = keeps(D3DTA_TEXTURE, textured, c) | reads_own_texel(textured, c.op);
+    if !read {
         return false;
     }
-    !falls_back(textured, c) & kept
+    !falls_back(textured, c) & read
 }
 
-pub fn alpha_written(s: Stage) -> bool
+pub(crate) fn alpha_written(s: Stage) -> bool
     ensures { λ r. ⌜ r ≡ alphaWritten s ⌝ }
 {
     let a = s.alpha;
-    let kept = falls_back(textured(s), a) | !is_bump_op(a.op);
-    !alpha_from_colour(s) & ((a.op != 1) & kept)
+    let computed = falls_back(textured(s), a) | !is_bump_op(a.op);
+    !alpha_from_colour(s) & ((a.op != D3DTOP_DISABLE) & computed)
 }
 
-pub fn reads_temp(s: Stage) -> bool
+pub(crate) fn reads_temp(s: Stage) -> bool
     ensures { λ r. ⌜ r ≡ readsTemp s ⌝ }
 {
     let c = s.colour;
@@ -83,7 +103,7 @@ pub fn reads_temp(s: Stage) -> bool
     colour | (alpha_written(s) & alpha)
 }
 
-pub fn reads_texel(s: Stage) -> bool
+pub(crate) fn reads_texel(s: Stage) -> bool
     ensures { λ r. ⌜ r ≡ readsTexel s ⌝ }
 {
     let c = s.colour;
@@ -109,5 +129,5 @@ pub fn is_luminance(s: Stage) -> bool
     ensures { λ r. ⌜ r ≡ luminance s ⌝ }
 {
     let c = s.colour;
-    c.op == 23
+    c.op == D3DTOP_BUMPENVMAPLUMINANCE
 }

@@ -1,27 +1,29 @@
 //! What a key says before any byte of text. Each walk goes from the last active stage to the first, as the rules speak of the stages behind one.
 use crate::Survey;
 use crate::keys::active_count;
-use crate::keys::falls_back;
+use crate::keys::blends_by_factor;
 use crate::keys::is_bump;
 use crate::keys::names_factor;
 use crate::keys::reads_constant;
 use crate::keys::textured;
 use crate::plain::is_plain;
-use crate::reading::alpha_written;
-use crate::reading::has_text;
 use crate::reading::is_lined;
 use crate::reading::is_luminance;
 use crate::reading::reads_temp;
 use crate::reading::reads_texel;
-use values::Combiner;
+use crate::warnings::WARNING_MODIFIER;
+use crate::warnings::WARNING_OP;
+use crate::warnings::WARNING_SELECTOR;
+use crate::warnings::warns_modifier;
+use crate::warnings::warns_op;
+use crate::warnings::warns_selector;
 use values::Key;
 use values::Stage;
 ghost use Prim.Native.Nat.{_<_, _≤_, _+_};
 ghost use mathlib.Core.Path.{_≡_};
 ghost use mathlib.Core.Bool.{cond};
 ghost use lib.Dec.{eqb};
-ghost use Rattle.cascade.specs.Keys.{active, activeCount, either, readsConstant};
-ghost use Rattle.cascade.specs.Warnings.{withoutText, unknownSelector, unknownModifier, appliesColour, appliesAlpha, warns};
+ghost use Rattle.cascade.specs.Keys.{active, activeCount, readsConstant};
 ghost use Rattle.cascade.specs.Survey.{surveyOf};
 ghost use Rattle.cascade.specs.Walks.{factsOf, addFact, marksFrom, addMark};
 
@@ -43,88 +45,17 @@ struct Marks {
     bump_env: bool,
 }
 
-fn applies_colour(s: Stage) -> bool
-    ensures { λ r. ⌜ r ≡ appliesColour s ⌝ }
-{
-    let c = s.colour;
-    !is_bump(s) & !falls_back(textured(s), c)
-}
-
-fn applies_alpha(s: Stage) -> bool
-    ensures { λ r. ⌜ r ≡ appliesAlpha s ⌝ }
-{
-    let a = s.alpha;
-    !is_bump(s) & (alpha_written(s) & !falls_back(textured(s), a))
-}
-
-fn without_text(c: Combiner) -> bool
-    ensures { λ r. ⌜ r ≡ withoutText c ⌝ }
-{
-    !has_text(c.op)
-}
-
-fn unknown_selector(c: Combiner) -> bool
-    ensures { λ r. ⌜ r ≡ either unknownSelector c ⌝ }
-{
-    (7 <= c.arg1 % 16) | (7 <= c.arg2 % 16)
-}
-
-fn unknown_modifier(c: Combiner) -> bool
-    ensures { λ r. ⌜ r ≡ either unknownModifier c ⌝ }
-{
-    (64 <= c.arg1) | (64 <= c.arg2)
-}
-
-fn warns_op(s: Stage) -> bool
-    ensures { λ r. ⌜ r ≡ warns withoutText s ⌝ }
-{
-    let c = s.colour;
-    let a = s.alpha;
-    let colour = without_text(c);
-    let alpha = without_text(a);
-    if !(colour | alpha) {
-        return false;
-    }
-    (applies_colour(s) & colour) | (applies_alpha(s) & alpha)
-}
-
-fn warns_selector(s: Stage) -> bool
-    ensures { λ r. ⌜ r ≡ warns (either unknownSelector) s ⌝ }
-{
-    let c = s.colour;
-    let a = s.alpha;
-    let colour = unknown_selector(c);
-    let alpha = unknown_selector(a);
-    if !(colour | alpha) {
-        return false;
-    }
-    (applies_colour(s) & colour) | (applies_alpha(s) & alpha)
-}
-
-fn warns_modifier(s: Stage) -> bool
-    ensures { λ r. ⌜ r ≡ warns (either unknownModifier) s ⌝ }
-{
-    let c = s.colour;
-    let a = s.alpha;
-    let colour = unknown_modifier(c);
-    let alpha = unknown_modifier(a);
-    if !(colour | alpha) {
-        return false;
-    }
-    (applies_colour(s) & colour) | (applies_alpha(s) & alpha)
-}
-
-// 1 or 0.
-fn flag(b: bool) -> u8
-    ensures { λ r. ⌜ (r ≡ cond b 1 0) × (r ≤ 1) ⌝ }
+// n or 0.
+fn when(b: bool, n: u8) -> u8
+    ensures { λ r. ⌜ (r ≡ cond b n 0) × (r ≤ n) ⌝ }
 {
     if b {
-        return 1;
+        return n;
     }
     0
 }
 
-// The row count of the last constant: that of a later stage, or of this one.
+// The rows up to the last constant, of a later stage or of this one: row 0 is the factor's, row i + 1 the constant of stage i.
 fn last_constant(later: u8, s: Stage, i: u8) -> u8
     requires { ⌜ i < 8 ⌝ }
     ensures { λ r. ⌜ r ≡ cond (eqb later 0) (cond (readsConstant s) (i + 2) 0) later ⌝ }
@@ -143,12 +74,10 @@ fn add_fact(f: Facts, s: Stage, i: u8) -> Facts
     ensures { λ r. ⌜ r ≡ addFact i s f ⌝ }
 {
     if is_plain(s) {
-        let c = s.colour;
-        let a = s.alpha;
         return Facts {
-            mask: flag(textured(s)) + 2 * f.mask,
+            mask: when(textured(s), 1) + 2 * f.mask,
             constant: f.constant,
-            factor: ((c.op == 14) | (a.op == 14)) | f.factor,
+            factor: blends_by_factor(s) | f.factor,
             live: f.live,
             op: warns_op(s) | f.op,
             selector: f.selector,
@@ -156,7 +85,7 @@ fn add_fact(f: Facts, s: Stage, i: u8) -> Facts
         };
     }
     Facts {
-        mask: flag(textured(s)) + 2 * f.mask,
+        mask: when(textured(s), 1) + 2 * f.mask,
         constant: last_constant(f.constant, s, i),
         factor: names_factor(s) | f.factor,
         live: (!is_bump(s) & reads_temp(s)) | f.live,
@@ -198,7 +127,7 @@ fn add_mark(m: Marks, s: Stage, alive: bool) -> Marks
     let env = (bump & (m.next & (t | is_luminance(s)))) | m.bump_env;
     Marks {
         next: here,
-        marks: flag(here) + 2 * m.marks,
+        marks: when(here, 1) + 2 * m.marks,
         bump_env: env,
     }
 }
@@ -227,7 +156,7 @@ fn rows(f: Facts) -> u8
     if f.constant != 0 {
         return f.constant;
     }
-    flag(f.factor)
+    when(f.factor, 1)
 }
 
 pub fn survey(k: Key) -> Survey
@@ -240,7 +169,9 @@ pub fn survey(k: Key) -> Survey
         count: n,
         mask: f.mask,
         rows: rows(f),
-        warning: flag(f.op) + 2 * flag(f.selector) + 4 * flag(f.modifier),
+        warning: when(f.op, WARNING_OP)
+            + when(f.selector, WARNING_SELECTOR)
+            + when(f.modifier, WARNING_MODIFIER),
         live: f.live,
         marks: m.marks,
         bump_env: m.bump_env,

@@ -1,6 +1,7 @@
 //! Arguments: the source and the modifiers that a byte names, and their text.
 use crate::Arg;
 use crate::Source;
+use crate::codes::*;
 use text::put;
 use text::put_numbered;
 use text::put_when;
@@ -9,23 +10,24 @@ ghost use mathlib.Core.Path.{_≡_};
 ghost use Rattle.text.specs.Buffer.{Wrote};
 ghost use Rattle.combiners.specs.Arguments.{sourceOf, argOf, sourceText, replicated, argText};
 
-pub fn source_of(selector: u8, textured: bool) -> Source
+// A texture that is not bound is white, and so is a selector that Microsoft does not name.
+fn source_of(selector: u8, textured: bool) -> Source
     ensures { λ r. ⌜ r ≡ sourceOf textured selector ⌝ }
 {
     match selector {
-        0 => Source::Diffuse,
-        1 => Source::Current,
-        2 => {
+        D3DTA_DIFFUSE => Source::Diffuse,
+        D3DTA_CURRENT => Source::Current,
+        D3DTA_TEXTURE => {
             if textured {
                 Source::Texture
             } else {
                 Source::White
             }
         }
-        3 => Source::Factor,
-        4 => Source::Specular,
-        5 => Source::Temp,
-        6 => Source::Constant,
+        D3DTA_TFACTOR => Source::Factor,
+        D3DTA_SPECULAR => Source::Specular,
+        D3DTA_TEMP => Source::Temp,
+        D3DTA_CONSTANT => Source::Constant,
         _ => Source::White,
     }
 }
@@ -33,14 +35,15 @@ pub fn source_of(selector: u8, textured: bool) -> Source
 pub fn arg_of(byte: u8, textured: bool) -> Arg
     ensures { λ r. ⌜ r ≡ argOf textured byte ⌝ }
 {
-    let s = source_of(byte % 16, textured);
+    let s = source_of(byte % SELECTORS, textured);
     Arg {
         source: s,
-        replicate: byte / 32 % 2 == 1,
-        complement: byte / 16 % 2 == 1,
+        replicate: byte / D3DTA_ALPHAREPLICATE % 2 == 1,
+        complement: byte / D3DTA_COMPLEMENT % 2 == 1,
     }
 }
 
+// The text of a source. The constant of a stage stands in the row behind that of the stage before it; row 0 is the texture factor.
 fn put_source(out: &mut [u8], at: usize, s: Source, stage: u8) -> usize
     requires { ⌜ stage < 8 ⌝ }
     ensures { λ r. ⌜ Wrote (now (out .entry)) at (now (out .exit)) r (sourceText stage s) ⌝ }

@@ -1,5 +1,6 @@
-//! Arguments and operations: an argument byte and an op code decoded, and an argument's text written.
+//! Arguments and operations: Microsoft's codes, an argument byte and an op code decoded, and an argument's text written.
 pub mod arguments;
+pub mod codes;
 pub mod ops;
 
 // Where an argument's value comes from.

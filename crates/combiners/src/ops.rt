@@ -1,5 +1,6 @@
 //! The operation that a code names.
 use crate::Op;
+use crate::codes::*;
 ghost use mathlib.Core.Path.{_≡_};
 ghost use Rattle.combiners.specs.Combiners.{opOf};
 
@@ -8,26 +9,26 @@ pub fn op_of(code: u8) -> Op
     ensures { λ r. ⌜ r ≡ opOf code ⌝ }
 {
     match code {
-        2 => Op::SelectArg1,
-        3 => Op::SelectArg2,
-        4 => Op::Modulate,
-        5 => Op::Modulate2X,
-        6 => Op::Modulate4X,
-        7 => Op::Add,
-        8 => Op::AddSigned,
-        9 => Op::AddSigned2X,
-        10 => Op::Subtract,
-        11 => Op::AddSmooth,
-        12 => Op::BlendDiffuseAlpha,
-        13 => Op::BlendTextureAlpha,
-        14 => Op::BlendFactorAlpha,
-        15 => Op::BlendTextureAlphaPM,
-        16 => Op::BlendCurrentAlpha,
-        18 => Op::ModulateAlphaAddColor,
-        19 => Op::ModulateColorAddAlpha,
-        20 => Op::ModulateInvAlphaAddColor,
-        21 => Op::ModulateInvColorAddAlpha,
-        24 => Op::DotProduct3,
+        D3DTOP_SELECTARG1 => Op::SelectArg1,
+        D3DTOP_SELECTARG2 => Op::SelectArg2,
+        D3DTOP_MODULATE => Op::Modulate,
+        D3DTOP_MODULATE2X => Op::Modulate2X,
+        D3DTOP_MODULATE4X => Op::Modulate4X,
+        D3DTOP_ADD => Op::Add,
+        D3DTOP_ADDSIGNED => Op::AddSigned,
+        D3DTOP_ADDSIGNED2X => Op::AddSigned2X,
+        D3DTOP_SUBTRACT => Op::Subtract,
+        D3DTOP_ADDSMOOTH => Op::AddSmooth,
+        D3DTOP_BLENDDIFFUSEALPHA => Op::BlendDiffuseAlpha,
+        D3DTOP_BLENDTEXTUREALPHA => Op::BlendTextureAlpha,
+        D3DTOP_BLENDFACTORALPHA => Op::BlendFactorAlpha,
+        D3DTOP_BLENDTEXTUREALPHAPM => Op::BlendTextureAlphaPM,
+        D3DTOP_BLENDCURRENTALPHA => Op::BlendCurrentAlpha,
+        D3DTOP_MODULATEALPHA_ADDCOLOR => Op::ModulateAlphaAddColor,
+        D3DTOP_MODULATECOLOR_ADDALPHA => Op::ModulateColorAddAlpha,
+        D3DTOP_MODULATEINVALPHA_ADDCOLOR => Op::ModulateInvAlphaAddColor,
+        D3DTOP_MODULATEINVCOLOR_ADDALPHA => Op::ModulateInvColorAddAlpha,
+        D3DTOP_DOTPRODUCT3 => Op::DotProduct3,
         0..=1 | 17 | 22..=23 | 25..=255 => Op::Other,
     }
 }

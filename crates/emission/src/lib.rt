@@ -12,26 +12,31 @@ pub use values::Key;
 pub use values::Refusal;
 pub use values::Stage;
 pub use values::Variant;
-ghost use Prim.Native.Nat.{_≤_, _+_};
+ghost use Prim.Native.Nat.{_≤_, _<_, _+_};
 ghost use mathlib.Core.Path.{_≡_};
-ghost use mathlib.Core.Bool.{cond};
-ghost use lib.Dec.{leb};
-ghost use mathlib.Core.List.{_++_};
-ghost use lib.ListN.{length, drop};
+ghost use lib.ListN.{length};
 ghost use Rattle.cascade.specs.Keys.{active};
 ghost use Rattle.cascade.specs.Reading.{lookupsOf};
 ghost use Rattle.cascade.specs.Survey.{surveyOf};
-ghost use Rattle.shader.specs.Results.{answerNumber, answerOf, bufferAfter, emissionNumber, frontOf, textOf};
+ghost use Rattle.shader.specs.Results.{alphaWarning, answerNumber, answerOf, bufferAfter, emissionNumber, frontOf, inFront, textOf};
 ghost use Rattle.shader.specs.Demand.{Demanded};
 ghost use Rattle.values.specs.Admitted.{Admitted};
 
-// An alpha function above 8 warns too.
+// D3DCMP_ALWAYS, the last comparison that Direct3D 9 names.
+const ALWAYS: u8 = 8;
+
+const ALPHA_FUNC_WARNING: u8 = 8;
+
+// No text is longer.
+const MOST_TEXT: usize = 16384;
+
+// An alpha function that Direct3D 9 does not name warns too.
 fn warning_of(stages: u8, alpha_func: u8) -> u8
     requires { ⌜ stages ≤ 7 ⌝ }
-    ensures { λ r. ⌜ r ≡ stages + cond (leb 9 «alpha_func») 8 0 ⌝ }
+    ensures { λ r. ⌜ r ≡ stages + alphaWarning «alpha_func» ⌝ }
 {
-    if 9 <= alpha_func {
-        return stages + 8;
+    if ALWAYS < alpha_func {
+        return stages + ALPHA_FUNC_WARNING;
     }
     stages
 }
@@ -41,13 +46,14 @@ fn warning_of(stages: u8, alpha_func: u8) -> u8
 fn put_text(out: &mut [u8], k: Key, v: Variant, e: Entry, u: Survey) -> Place
     requires { ⌜ (u ≡ surveyOf (k .stages)) × (e .len ≤ 32) ⌝ }
     ensures place { λ r. ⌜ r .at ≡ length (textOf k v e) ⌝ }
-    ensures buffer { λ _. ⌜ now (out .exit) ≡ cond (leb (length (textOf k v e)) (length (now (out .entry)))) (textOf k v e ++ drop (length (textOf k v e)) (now (out .entry))) (now (out .entry)) ⌝ }
+    ensures fits { λ _. ⌜ (length (textOf k v e) ≤ length (now (out .entry)) → now (out .exit) ≡ inFront (textOf k v e) (now (out .entry))) ⌝ }
+    ensures over { λ _. ⌜ (length (now (out .entry)) < length (textOf k v e) → now (out .exit) ≡ now (out .entry)) ⌝ }
     ensures lookups { λ r. ⌜ r .lookups ≡ lookupsOf (u .live) (active (k .stages)) ⌝ }
 {
-    if 16384 <= out.len() {
+    if MOST_TEXT <= out.len() {
         return put_whole(out, k, v, e, u);
     }
-    let mut aside = [0u8; 16384];
+    let mut aside = [0u8; MOST_TEXT];
     let w = put_whole(&mut aside, k, v, e, u);
     if w.at <= out.len() {
         put(out, 0, &aside[..w.at]);

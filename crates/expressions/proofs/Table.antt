@@ -34,9 +34,11 @@ module _ (i : ℕ) (a b : Text) where
   right BlendTextureAlphaPM true = refl
   right BlendTextureAlphaPM false = refl
   right BlendCurrentAlpha textured = refl
-  right ModulateAlphaAddColor textured = ap (λ (l : List ℕ). bytes "saturate(" ++ (flat a ++ (bytes " + (" ++ l))) (append-assoc (flat a) (bytes ").a * ") (flat b ++ bytes ")"))
+  right ModulateAlphaAddColor textured =
+      ap (λ (l : List ℕ). bytes "saturate(" ++ (flat a ++ (bytes " + (" ++ l))) (append-assoc (flat a) (bytes ").a * ") (flat b ++ bytes ")"))
   right ModulateColorAddAlpha textured = refl
-  right ModulateInvAlphaAddColor textured = ap (λ (l : List ℕ). bytes "saturate(" ++ (flat a ++ (bytes " + (1.0 - (" ++ l))) (append-assoc (flat a) (bytes ").a) * ") (flat b ++ bytes ")"))
+  right ModulateInvAlphaAddColor textured =
+      ap (λ (l : List ℕ). bytes "saturate(" ++ (flat a ++ (bytes " + (1.0 - (" ++ l))) (append-assoc (flat a) (bytes ").a) * ") (flat b ++ bytes ")"))
   right ModulateInvColorAddAlpha textured = refl
   right DotProduct3 textured = refl
   right Other textured = refl

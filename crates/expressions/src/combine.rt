@@ -1,12 +1,12 @@
 //! The text of an expression: its operation's form, with its arguments in it.
-use crate::forms::Close;
+use crate::forms::Ending;
 use crate::forms::Form;
-use crate::forms::Middle;
-use crate::forms::Open;
+use crate::forms::Joining;
+use crate::forms::Opening;
 use crate::forms::form_of;
-use crate::words::put_close;
-use crate::words::put_middle;
-use crate::words::put_open;
+use crate::words::put_ending;
+use crate::words::put_joining;
+use crate::words::put_opening;
 use combiners::Arg;
 use combiners::Expression;
 use combiners::arguments::put_arg;
@@ -19,21 +19,22 @@ ghost use Rattle.expressions.specs.Forms.{formText};
 fn put_both(
     out: &mut [u8],
     at: usize,
-    open: Open,
-    middle: Middle,
-    close: Close,
+    opening: Opening,
+    joining: Joining,
+    ending: Ending,
     x: Arg,
     y: Arg,
     stage: u8,
 ) -> usize
     requires { ⌜ stage < 8 ⌝ }
-    ensures { λ r. ⌜ Wrote (now (out .entry)) at (now (out .exit)) r (formText stage (argText stage x) (argText stage y) (Form.Both «open» middle close)) ⌝ }
+    ensures { λ r. ⌜ Wrote (now (out .entry)) at (now (out .exit)) r
+        (formText stage (argText stage x) (argText stage y) (Form.Both opening joining ending)) ⌝ }
 {
-    let mut p = put_open(out, at, open);
+    let mut p = put_opening(out, at, opening);
     p = put_arg(out, p, x, stage);
-    p = put_middle(out, p, middle, x, stage);
+    p = put_joining(out, p, joining, x, stage);
     p = put_arg(out, p, y, stage);
-    put_close(out, p, close, x, stage)
+    put_ending(out, p, ending, x, stage)
 }
 
 pub(crate) fn put_expression(
@@ -51,8 +52,10 @@ pub(crate) fn put_expression(
     let op = e.op;
     let form = form_of(op, textured);
     match form {
-        Form::First => put_arg(out, at, x, stage),
-        Form::Second => put_arg(out, at, y, stage),
-        Form::Both(open, middle, close) => { put_both(out, at, open, middle, close, x, y, stage) }
+        Form::Arg1 => put_arg(out, at, x, stage),
+        Form::Arg2 => put_arg(out, at, y, stage),
+        Form::Both(opening, joining, ending) => {
+            put_both(out, at, opening, joining, ending, x, y, stage)
+        }
     }
 }

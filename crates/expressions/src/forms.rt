@@ -3,100 +3,130 @@ use combiners::Op;
 ghost use mathlib.Core.Path.{_≡_};
 ghost use Rattle.expressions.specs.Forms.{formOf};
 
-// The words before argument 1.
-pub enum Open {
-    Product,
-    Clamped,
-    Doubled,
-    Quadrupled,
-    DoubledSum,
-    Rest,
+// The words before argument 1. As in Microsoft's names, the inverse of a value is one minus the value.
+pub(crate) enum Opening {
+    Bracket,
+    Saturate,
+    SaturateTwice,
+    SaturateFourTimes,
+    SaturateTwiceSum,
+    SaturateInverse,
     Dot,
 }
 
-// The words between argument 1 and argument 2. Those of an alpha have argument 1 in them.
-pub enum Middle {
+// The words between argument 1 and argument 2. Those that name argument 1 repeat its text.
+pub(crate) enum Joining {
     Times,
     Plus,
     Minus,
-    ByDiffuse,
-    ByTexel,
-    ByFactor,
-    ByCurrent,
-    PlusAlphaTimes,
-    PlusRestTimes,
-    CloseTimes,
+    TimesDiffuseAlphaPlus,
+    TimesTexelAlphaPlus,
+    TimesFactorAlphaPlus,
+    TimesCurrentAlphaPlus,
+    PlusArg1AlphaTimes,
+    PlusInverseArg1AlphaTimes,
+    BracketTimes,
     Dot,
 }
 
-// The words behind argument 2. Those of an alpha, and of what argument 1 leaves of 1, have argument 1 in them.
-pub enum Close {
-    Paren,
-    Half,
-    HalfOfSum,
-    RestOfDiffuse,
-    RestOfTexel,
-    RestOfFactor,
-    RestOfCurrent,
-    RestOfFirst,
-    PlusAlpha,
+// The words behind argument 2. Those that name argument 1 repeat its text.
+pub(crate) enum Ending {
+    Bracket,
+    MinusHalf,
+    MinusHalfSum,
+    TimesInverseDiffuseAlpha,
+    TimesInverseTexelAlpha,
+    TimesInverseFactorAlpha,
+    TimesInverseCurrentAlpha,
+    TimesInverseArg1,
+    PlusArg1Alpha,
     Dot,
 }
 
-pub enum Form {
-    First,
-    Second,
-    Both(Open, Middle, Close),
+// One argument alone, or both with words around them.
+pub(crate) enum Form {
+    Arg1,
+    Arg2,
+    Both(Opening, Joining, Ending),
 }
 
+// The table: a row for each operation.
 pub(crate) fn form_of(op: Op, textured: bool) -> Form
     ensures { λ r. ⌜ r ≡ formOf textured op ⌝ }
 {
     match op {
-        Op::SelectArg1 => Form::First,
-        Op::SelectArg2 => Form::Second,
-        Op::Modulate => Form::Both(Open::Product, Middle::Times, Close::Paren),
-        Op::Modulate2X => Form::Both(Open::Doubled, Middle::Times, Close::Paren),
-        Op::Modulate4X => Form::Both(Open::Quadrupled, Middle::Times, Close::Paren),
-        Op::Add => Form::Both(Open::Clamped, Middle::Plus, Close::Paren),
-        Op::AddSigned => Form::Both(Open::Clamped, Middle::Plus, Close::Half),
-        Op::AddSigned2X => Form::Both(Open::DoubledSum, Middle::Plus, Close::HalfOfSum),
-        Op::Subtract => Form::Both(Open::Clamped, Middle::Minus, Close::Paren),
-        Op::AddSmooth => Form::Both(Open::Clamped, Middle::Plus, Close::RestOfFirst),
-        Op::BlendDiffuseAlpha => Form::Both(Open::Product, Middle::ByDiffuse, Close::RestOfDiffuse),
+        Op::SelectArg1 => Form::Arg1,
+        Op::SelectArg2 => Form::Arg2,
+        Op::Modulate => Form::Both(Opening::Bracket, Joining::Times, Ending::Bracket),
+        Op::Modulate2X => Form::Both(Opening::SaturateTwice, Joining::Times, Ending::Bracket),
+        Op::Modulate4X => Form::Both(Opening::SaturateFourTimes, Joining::Times, Ending::Bracket),
+        Op::Add => Form::Both(Opening::Saturate, Joining::Plus, Ending::Bracket),
+        Op::AddSigned => Form::Both(Opening::Saturate, Joining::Plus, Ending::MinusHalf),
+        Op::AddSigned2X => Form::Both(
+            Opening::SaturateTwiceSum,
+            Joining::Plus,
+            Ending::MinusHalfSum,
+        ),
+        Op::Subtract => Form::Both(Opening::Saturate, Joining::Minus, Ending::Bracket),
+        Op::AddSmooth => Form::Both(Opening::Saturate, Joining::Plus, Ending::TimesInverseArg1),
+        Op::BlendDiffuseAlpha => Form::Both(
+            Opening::Bracket,
+            Joining::TimesDiffuseAlphaPlus,
+            Ending::TimesInverseDiffuseAlpha,
+        ),
         Op::BlendTextureAlpha => {
             if textured {
-                Form::Both(Open::Product, Middle::ByTexel, Close::RestOfTexel)
+                Form::Both(
+                    Opening::Bracket,
+                    Joining::TimesTexelAlphaPlus,
+                    Ending::TimesInverseTexelAlpha,
+                )
             } else {
-                Form::Second
+                Form::Arg2
             }
         }
-        Op::BlendFactorAlpha => Form::Both(Open::Product, Middle::ByFactor, Close::RestOfFactor),
+        Op::BlendFactorAlpha => Form::Both(
+            Opening::Bracket,
+            Joining::TimesFactorAlphaPlus,
+            Ending::TimesInverseFactorAlpha,
+        ),
         Op::BlendTextureAlphaPM => {
             if textured {
-                Form::Both(Open::Clamped, Middle::Plus, Close::RestOfTexel)
+                Form::Both(
+                    Opening::Saturate,
+                    Joining::Plus,
+                    Ending::TimesInverseTexelAlpha,
+                )
             } else {
-                Form::Both(Open::Clamped, Middle::Plus, Close::Paren)
+                Form::Both(Opening::Saturate, Joining::Plus, Ending::Bracket)
             }
         }
-        Op::BlendCurrentAlpha => Form::Both(Open::Product, Middle::ByCurrent, Close::RestOfCurrent),
-        Op::ModulateAlphaAddColor => Form::Both(
-            Open::Clamped,
-            Middle::PlusAlphaTimes,
-            Close::Paren,
+        Op::BlendCurrentAlpha => Form::Both(
+            Opening::Bracket,
+            Joining::TimesCurrentAlphaPlus,
+            Ending::TimesInverseCurrentAlpha,
         ),
-        Op::ModulateColorAddAlpha => Form::Both(Open::Clamped, Middle::Times, Close::PlusAlpha),
+        Op::ModulateAlphaAddColor => Form::Both(
+            Opening::Saturate,
+            Joining::PlusArg1AlphaTimes,
+            Ending::Bracket,
+        ),
+        Op::ModulateColorAddAlpha => Form::Both(
+            Opening::Saturate,
+            Joining::Times,
+            Ending::PlusArg1Alpha,
+        ),
         Op::ModulateInvAlphaAddColor => Form::Both(
-            Open::Clamped,
-            Middle::PlusRestTimes,
-            Close::Paren,
+            Opening::Saturate,
+            Joining::PlusInverseArg1AlphaTimes,
+            Ending::Bracket,
         ),
         Op::ModulateInvColorAddAlpha => Form::Both(
-            Open::Rest,
-            Middle::CloseTimes,
-            Close::PlusAlpha,
+            Opening::SaturateInverse,
+            Joining::BracketTimes,
+            Ending::PlusArg1Alpha,
         ),
-        Op::DotProduct3 => Form::Both(Open::Dot, Middle::Dot, Close::Dot),
-        Op::Other => Form::First,
+        Op::DotProduct3 => Form::Both(Opening::Dot, Joining::Dot, Ending::Dot),
+        Op::Other => Form::Arg1,
     }
 }

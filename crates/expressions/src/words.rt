@@ -1,7 +1,7 @@
 //! The words of the table, written: each literal in its own arm, so that its length is a constant to the compiler.
-use crate::forms::Close;
-use crate::forms::Middle;
-use crate::forms::Open;
+use crate::forms::Ending;
+use crate::forms::Joining;
+use crate::forms::Opening;
 use combiners::Arg;
 use combiners::arguments::put_arg;
 use text::put;
@@ -9,71 +9,71 @@ use text::put_numbered;
 ghost use Prim.Native.Nat.{_<_};
 ghost use Rattle.text.specs.Buffer.{Wrote};
 ghost use Rattle.combiners.specs.Arguments.{argText};
-ghost use Rattle.expressions.specs.Forms.{openText, middleText, closeText};
+ghost use Rattle.expressions.specs.Forms.{openingText, joiningText, endingText};
 
-pub(crate) fn put_open(out: &mut [u8], at: usize, w: Open) -> usize
-    ensures { λ r. ⌜ Wrote (now (out .entry)) at (now (out .exit)) r (openText w) ⌝ }
+pub(crate) fn put_opening(out: &mut [u8], at: usize, w: Opening) -> usize
+    ensures { λ r. ⌜ Wrote (now (out .entry)) at (now (out .exit)) r (openingText w) ⌝ }
 {
     match w {
-        Open::Product => put(out, at, b"("),
-        Open::Clamped => put(out, at, b"saturate("),
-        Open::Doubled => put(out, at, b"saturate(2.0 * "),
-        Open::Quadrupled => put(out, at, b"saturate(4.0 * "),
-        Open::DoubledSum => put(out, at, b"saturate(2.0 * ("),
-        Open::Rest => put(out, at, b"saturate((1.0 - "),
-        Open::Dot => put(out, at, b"float4(saturate(4.0 * dot(("),
+        Opening::Bracket => put(out, at, b"("),
+        Opening::Saturate => put(out, at, b"saturate("),
+        Opening::SaturateTwice => put(out, at, b"saturate(2.0 * "),
+        Opening::SaturateFourTimes => put(out, at, b"saturate(4.0 * "),
+        Opening::SaturateTwiceSum => put(out, at, b"saturate(2.0 * ("),
+        Opening::SaturateInverse => put(out, at, b"saturate((1.0 - "),
+        Opening::Dot => put(out, at, b"float4(saturate(4.0 * dot(("),
     }
 }
 
-pub(crate) fn put_middle(out: &mut [u8], at: usize, w: Middle, x: Arg, stage: u8) -> usize
+pub(crate) fn put_joining(out: &mut [u8], at: usize, w: Joining, x: Arg, stage: u8) -> usize
     requires { ⌜ stage < 8 ⌝ }
-    ensures { λ r. ⌜ Wrote (now (out .entry)) at (now (out .exit)) r (middleText stage (argText stage x) w) ⌝ }
+    ensures { λ r. ⌜ Wrote (now (out .entry)) at (now (out .exit)) r (joiningText stage (argText stage x) w) ⌝ }
 {
     match w {
-        Middle::Times => put(out, at, b" * "),
-        Middle::Plus => put(out, at, b" + "),
-        Middle::Minus => put(out, at, b" - "),
-        Middle::ByDiffuse => put(out, at, b" * in.color0.a + "),
-        Middle::ByTexel => put_numbered(out, at, b" * t#.a + ", stage),
-        Middle::ByFactor => put(out, at, b" * ps_c[0].a + "),
-        Middle::ByCurrent => put(out, at, b" * current.a + "),
-        Middle::PlusAlphaTimes => {
+        Joining::Times => put(out, at, b" * "),
+        Joining::Plus => put(out, at, b" + "),
+        Joining::Minus => put(out, at, b" - "),
+        Joining::TimesDiffuseAlphaPlus => put(out, at, b" * in.color0.a + "),
+        Joining::TimesTexelAlphaPlus => put_numbered(out, at, b" * t#.a + ", stage),
+        Joining::TimesFactorAlphaPlus => put(out, at, b" * ps_c[0].a + "),
+        Joining::TimesCurrentAlphaPlus => put(out, at, b" * current.a + "),
+        Joining::PlusArg1AlphaTimes => {
             let mut p = put(out, at, b" + (");
             p = put_arg(out, p, x, stage);
             put(out, p, b").a * ")
         }
-        Middle::PlusRestTimes => {
+        Joining::PlusInverseArg1AlphaTimes => {
             let mut p = put(out, at, b" + (1.0 - (");
             p = put_arg(out, p, x, stage);
             put(out, p, b").a) * ")
         }
-        Middle::CloseTimes => put(out, at, b") * "),
-        Middle::Dot => put(out, at, b").rgb - 0.5, ("),
+        Joining::BracketTimes => put(out, at, b") * "),
+        Joining::Dot => put(out, at, b").rgb - 0.5, ("),
     }
 }
 
-pub(crate) fn put_close(out: &mut [u8], at: usize, w: Close, x: Arg, stage: u8) -> usize
+pub(crate) fn put_ending(out: &mut [u8], at: usize, w: Ending, x: Arg, stage: u8) -> usize
     requires { ⌜ stage < 8 ⌝ }
-    ensures { λ r. ⌜ Wrote (now (out .entry)) at (now (out .exit)) r (closeText stage (argText stage x) w) ⌝ }
+    ensures { λ r. ⌜ Wrote (now (out .entry)) at (now (out .exit)) r (endingText stage (argText stage x) w) ⌝ }
 {
     match w {
-        Close::Paren => put(out, at, b")"),
-        Close::Half => put(out, at, b" - 0.5)"),
-        Close::HalfOfSum => put(out, at, b" - 0.5))"),
-        Close::RestOfDiffuse => put(out, at, b" * (1.0 - in.color0.a))"),
-        Close::RestOfTexel => put_numbered(out, at, b" * (1.0 - t#.a))", stage),
-        Close::RestOfFactor => put(out, at, b" * (1.0 - ps_c[0].a))"),
-        Close::RestOfCurrent => put(out, at, b" * (1.0 - current.a))"),
-        Close::RestOfFirst => {
+        Ending::Bracket => put(out, at, b")"),
+        Ending::MinusHalf => put(out, at, b" - 0.5)"),
+        Ending::MinusHalfSum => put(out, at, b" - 0.5))"),
+        Ending::TimesInverseDiffuseAlpha => put(out, at, b" * (1.0 - in.color0.a))"),
+        Ending::TimesInverseTexelAlpha => put_numbered(out, at, b" * (1.0 - t#.a))", stage),
+        Ending::TimesInverseFactorAlpha => put(out, at, b" * (1.0 - ps_c[0].a))"),
+        Ending::TimesInverseCurrentAlpha => put(out, at, b" * (1.0 - current.a))"),
+        Ending::TimesInverseArg1 => {
             let mut p = put(out, at, b" * (1.0 - ");
             p = put_arg(out, p, x, stage);
             put(out, p, b"))")
         }
-        Close::PlusAlpha => {
+        Ending::PlusArg1Alpha => {
             let mut p = put(out, at, b" + (");
             p = put_arg(out, p, x, stage);
             put(out, p, b").a)")
         }
-        Close::Dot => put(out, at, b").rgb - 0.5)))"),
+        Ending::Dot => put(out, at, b").rgb - 0.5)))"),
     }
 }

@@ -1,15 +1,17 @@
 //! The program: records from standard input, and the texts that they ask for.
 use emission::front;
+use libc::EINTR;
 use libc::STDERR_FILENO;
 use libc::STDIN_FILENO;
 use libc::STDOUT_FILENO;
-use printout::Session;
+use printout::INPUT_LENGTH;
+use printout::TEXT_LENGTH;
 use printout::begin;
+use printout::lines::LINE_LENGTH;
 use printout::lines::put_refused_line;
 use printout::step;
-ghost use Prim.Native.Nat.{_≤_, _<_};
-ghost use mathlib.Core.Path.{_≡_};
-ghost use mathlib.Core.Bool.{true};
+use values::Refusal;
+ghost use Prim.Native.Nat.{_≤_};
 ghost use lib.ListN.{length};
 
 enum End {
@@ -27,10 +29,29 @@ struct Input {
     length: usize,
 }
 
+// How often a read that was interrupted is tried again. Nothing says that interrupts end, so there is a bound.
+const MOST_TRIES: usize = 1000000;
+
+// What a read of standard input into the front of a buffer answers. One that a signal interrupted is tried again.
+fn read_some(buf: &mut [u8]) -> isize {
+    let mut tries = 0;
+    while tries < MOST_TRIES {
+        let got = libc::read(STDIN_FILENO, buf);
+        if 0 <= got {
+            return got;
+        }
+        if os::errno() != EINTR {
+            return got;
+        }
+        tries += 1;
+    }
+    -1
+}
+
 // Whether the input ends here.
 fn end_here() -> End {
     let mut one = [0u8; 1];
-    let got = libc::read(STDIN_FILENO, &mut one);
+    let got = read_some(&mut one);
     if got < 0 {
         return End::Failed;
     }
@@ -46,7 +67,7 @@ fn read_input(input: &mut [u8]) -> Input
 {
     let mut n = 0;
     while n < input.len() {
-        let got = libc::read(STDIN_FILENO, &mut input[n..]);
+        let got = read_some(&mut input[n..]);
         if got < 0 {
             return Input {
                 end: End::Failed,
@@ -83,44 +104,24 @@ fn write_printed(line: &mut [u8], n: usize, text: &mut [u8], m: usize) -> bool {
     write_front(text, m)
 }
 
-// What the session printed next: whether it could be written, and whether there is more, by the next session.
-struct Turn {
-    written: bool,
-    more: bool,
-    next: Session,
-}
-
-fn print_step(session: Session, input: &[u8], line: &mut [u8; 96], text: &mut [u8; 16384]) -> Turn
-    ensures { λ r. ⌜ (r .more ≡ true → (session .at < r .next .at) × (r .next .at ≤ length (now (input .entry)))) ⌝ }
-{
-    let printed = step(session, input, line, text);
-    let next = printed.next;
-    let written = write_printed(line, printed.line, text, printed.text);
-    Turn {
-        written: written,
-        more: printed.more,
-        next: next,
-    }
-}
-
 // Whether what is printed for the input could be written. The first write that fails is the last.
-fn print_output(input: &[u8], line: &mut [u8; 96], text: &mut [u8; 16384]) -> bool {
+fn print_output(input: &[u8], line: &mut [u8; LINE_LENGTH], text: &mut [u8; TEXT_LENGTH]) -> bool {
     let mut session = begin();
     loop {
-        let turn = print_step(session, input, line, text);
-        if !turn.written {
+        let printed = step(session, input, line, text);
+        if !write_printed(line, printed.line, text, printed.text) {
             return false;
         }
-        if !turn.more {
+        if !printed.more {
             return true;
         }
-        let next = turn.next;
+        let next = printed.next;
         session = next;
     }
 }
 
-fn print_too_long(line: &mut [u8; 96]) -> bool {
-    let len = put_refused_line(line, 9, 32768);
+fn print_too_long(line: &mut [u8; LINE_LENGTH]) -> bool {
+    let len = put_refused_line(line, Refusal::InputTooLong, INPUT_LENGTH);
     write_front(line, len)
 }
 
@@ -135,7 +136,7 @@ fn tell_unless(written: bool) {
 }
 
 // Standard input into the first buffer, and what is printed for it.
-fn run(input: &mut [u8], line: &mut [u8; 96], text: &mut [u8; 16384]) {
+fn run(input: &mut [u8], line: &mut [u8; LINE_LENGTH], text: &mut [u8; TEXT_LENGTH]) {
     let got = read_input(input);
     let n = got.length;
     let end = got.end;
@@ -147,8 +148,8 @@ fn run(input: &mut [u8], line: &mut [u8; 96], text: &mut [u8; 16384]) {
 }
 
 fn main() {
-    let mut input = [0u8; 32768];
-    let mut text = [0u8; 16384];
-    let mut line = [0u8; 96];
+    let mut input = [0u8; INPUT_LENGTH];
+    let mut text = [0u8; TEXT_LENGTH];
+    let mut line = [0u8; LINE_LENGTH];
     run(&mut input, &mut line, &mut text);
 }

@@ -18,7 +18,8 @@ pub regroup : {l l′ : List ℕ} {a a′ : ℕ} {s t u : Text} → Wrote l a l�
 regroup {s = s} {t} {u} w = same (append-assoc (flat s) (flat t) (flat u)) w
 
 -- a text of what a function answered, and a text behind it
-pub answered : {A : Type 0} (t : A → Text) (x y : A) (u : Text) (l l₁ l₂ : List ℕ) (a a₁ a₂ : ℕ) → y ≡ x → Wrote l a l₁ a₁ (t y) → Wrote l₁ a₁ l₂ a₂ u → Wrote l a l₂ a₂ (t x ⊕ u)
+pub answered : {A : Type 0} (t : A → Text) (x y : A) (u : Text) (l l₁ l₂ : List ℕ) (a a₁ a₂ : ℕ)
+    → y ≡ x → Wrote l a l₁ a₁ (t y) → Wrote l₁ a₁ l₂ a₂ u → Wrote l a l₂ a₂ (t x ⊕ u)
 answered t x y u l l₁ l₂ a a₁ a₂ e w v = rw (← e) (w ⨾ v)
 
 -- a text by a test whose answer is known

@@ -1,16 +1,24 @@
 -- The loop over the active stages' parameters: what is still to be written, written, makes the whole.
 use Prim.Native.Nat.{ℕ, _+_, _<_, _≤_}
 use mathlib.Core.List.{List}
+use mathlib.Core.Path.{_≡_}
 use native.Mathlib.Numerals.{add-one}
 use lib.ListN.{drop, getD}
 use Rattle.text.specs.Text.{when, _⊕_}
 use Rattle.text.specs.Buffer.{Wrote}
 use Rattle.text.proofs.Laws.{_⨾_, nothing}
 use Rattle.cascade.specs.Keys.{textured, active, activeCount}
+use Rattle.cascade.specs.Survey.{surveyOf}
+use Rattle.cascade.specs.declared.Survey.{Survey}
 use Rattle.values.specs.declared.Stage.{Stage}
 use Rattle.cascade.proofs.Active.{here, past}
 use Rattle.shader.specs.Whole.{textureParameter, samplerParameter, samplersText}
 use Rattle.values.specs.declared.Variant.{Variant}
+
+-- what a survey says of the loops' bound
+pub survey-count : (l : List Stage) (u : Survey) → u ≡ surveyOf l → u .count ≡ activeCount l
+unfolding surveyOf
+survey-count l u e = rw e
 
 module _ (v : Variant) (l : List Stage) where
   -- the texture and sampler parameters from stage i on, written, make all of them

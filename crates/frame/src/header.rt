@@ -2,9 +2,10 @@
 use text::put;
 use text::put_either;
 use values::Variant;
-use variants::bits::flat_shade;
-use variants::bits::sample_mask;
-use variants::bits::srgb_write;
+use variants::bits::FLAT_SHADE;
+use variants::bits::SAMPLE_MASK;
+use variants::bits::SRGB_WRITE;
+use variants::bits::flag;
 ghost use Rattle.text.specs.Buffer.{Wrote};
 ghost use Rattle.shader.specs.Whole.{varyingsText, srgbHelperText, frontText};
 
@@ -14,7 +15,29 @@ fn put_varyings(out: &mut [u8], at: usize, flat: bool) -> usize
     let mut p = put(
         out,
         at,
-        b"#include <metal_stdlib>\nusing namespace metal;\n\nstruct Varyings {\n    float4 position [[position, invariant]];\n    float4 position1;\n    float4 texcoord0;\n    float4 texcoord1;\n    float4 texcoord2;\n    float4 texcoord3;\n    float4 texcoord4;\n    float4 texcoord5;\n    float4 texcoord6;\n    float4 texcoord7;\n    float4 texcoord8;\n    float4 texcoord9;\n    float4 texcoord10;\n    float4 texcoord11;\n    float4 texcoord12;\n    float4 texcoord13;\n    float4 texcoord14;\n    float4 texcoord15;\n",
+        b"#include <metal_stdlib>
+using namespace metal;
+
+struct Varyings {
+    float4 position [[position, invariant]];
+    float4 position1;
+    float4 texcoord0;
+    float4 texcoord1;
+    float4 texcoord2;
+    float4 texcoord3;
+    float4 texcoord4;
+    float4 texcoord5;
+    float4 texcoord6;
+    float4 texcoord7;
+    float4 texcoord8;
+    float4 texcoord9;
+    float4 texcoord10;
+    float4 texcoord11;
+    float4 texcoord12;
+    float4 texcoord13;
+    float4 texcoord14;
+    float4 texcoord15;
+",
     );
     p = put_either(
         out,
@@ -26,7 +49,12 @@ fn put_varyings(out: &mut [u8], at: usize, flat: bool) -> usize
     put(
         out,
         p,
-        b"    float4 fog;\n    float fog_z [[center_no_perspective]];\n    float point_size [[point_size]];\n};\n\n",
+        b"    float4 fog;
+    float fog_z [[center_no_perspective]];
+    float point_size [[point_size]];
+};
+
+",
     )
 }
 
@@ -37,7 +65,13 @@ fn put_srgb_helper(out: &mut [u8], at: usize, on: bool) -> usize
         return put(
             out,
             at,
-            b"static inline float3 mtld3d_linear_to_srgb(float3 c) {\n    float3 lo = 12.92 * c;\n    float3 hi = 1.055 * pow(max(c, float3(0.0)), 1.0 / 2.4) - 0.055;\n    return select(hi, lo, c <= 0.0031308);\n}\n\n",
+            b"static inline float3 mtld3d_linear_to_srgb(float3 c) {
+    float3 lo = 12.92 * c;
+    float3 hi = 1.055 * pow(max(c, float3(0.0)), 1.0 / 2.4) - 0.055;
+    return select(hi, lo, c <= 0.0031308);
+}
+
+",
         );
     }
     at
@@ -46,13 +80,18 @@ fn put_srgb_helper(out: &mut [u8], at: usize, on: bool) -> usize
 pub fn put_front(out: &mut [u8], at: usize, v: Variant) -> usize
     ensures { λ r. ⌜ Wrote (now (out .entry)) at (now (out .exit)) r (frontText v) ⌝ }
 {
-    let mut p = put_varyings(out, at, flat_shade(v));
-    p = put_srgb_helper(out, p, srgb_write(v));
+    let mut p = put_varyings(out, at, flag(v, FLAT_SHADE));
+    p = put_srgb_helper(out, p, flag(v, SRGB_WRITE));
     put_either(
         out,
         p,
-        sample_mask(v),
-        b"struct FfPsOut {\n    float4 oC0 [[color(0)]];\n    uint oMask [[sample_mask]];\n};\n\nfragment FfPsOut ",
+        flag(v, SAMPLE_MASK),
+        b"struct FfPsOut {
+    float4 oC0 [[color(0)]];
+    uint oMask [[sample_mask]];
+};
+
+fragment FfPsOut ",
         b"fragment float4 ",
     )
 }

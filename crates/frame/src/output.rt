@@ -1,18 +1,20 @@
 //! Specular, fog, alpha test, sRGB and the return.
+use combiners::codes::*;
 use text::put;
 use text::put_decimal;
 use text::put_either;
 use text::put_when;
 use values::Variant;
-use variants::bits::fog_source_w;
-use variants::bits::sample_mask;
-use variants::bits::srgb_write;
+use variants::bits::FOG_SOURCE_W;
+use variants::bits::SAMPLE_MASK;
+use variants::bits::SRGB_WRITE;
+use variants::bits::flag;
 use variants::bits::tested;
 ghost use Rattle.text.specs.Text.{lit, _⊕_};
 ghost use Rattle.text.specs.Buffer.{Wrote};
 ghost use Rattle.shader.specs.Output.{specularText, fogDepthText, fogFactorText, fogText, comparisonText, testText, srgbText, returnText, outputText};
 
-// Specular, and the colour that the rest changes.
+// The line of specular add, and the declaration of the colour that the later lines change.
 fn put_specular(out: &mut [u8], at: usize, on: bool) -> usize
     ensures { λ r. ⌜ Wrote (now (out .entry)) at (now (out .exit)) r (specularText on ⊕ lit "    float4 oC0 = current;\n") ⌝ }
 {
@@ -20,7 +22,9 @@ fn put_specular(out: &mut [u8], at: usize, on: bool) -> usize
         out,
         at,
         on,
-        b"    current = float4(saturate(current.rgb + in.color1.rgb), current.a);\n    float4 oC0 = current;\n",
+        b"    current = float4(saturate(current.rgb + in.color1.rgb), current.a);
+    float4 oC0 = current;
+",
         b"    float4 oC0 = current;\n",
     )
 }
@@ -37,25 +41,29 @@ fn put_fog_depth(out: &mut [u8], at: usize, w: bool) -> usize
     )
 }
 
-// By the table mode: EXP, EXP2, else linear.
+// The factor by the table mode: EXP, EXP2, or else linear.
 fn put_fog_factor(out: &mut [u8], at: usize, mode: u8) -> usize
     ensures { λ r. ⌜ Wrote (now (out .entry)) at (now (out .exit)) r (fogFactorText mode) ⌝ }
 {
     match mode {
-        1 => put(
+        D3DFOG_EXP => put(
             out,
             at,
             b"    float fog_f = saturate(precise::exp(-fog_data[1].z * fog_c));\n",
         ),
-        2 => put(
+        D3DFOG_EXP2 => put(
             out,
             at,
-            b"    float fog_dz = fog_data[1].z * fog_c;\n    float fog_f = saturate(precise::exp(-fog_dz * fog_dz));\n",
+            b"    float fog_dz = fog_data[1].z * fog_c;
+    float fog_f = saturate(precise::exp(-fog_dz * fog_dz));
+",
         ),
         _ => put(
             out,
             at,
-            b"    float fog_range = fog_data[1].y - fog_data[1].x;\n    float fog_f = fog_range == 0.0 ? (fog_c < fog_data[1].y ? 1.0 : 0.0) : saturate((fog_data[1].y - fog_c) / fog_range);\n",
+            b"    float fog_range = fog_data[1].y - fog_data[1].x;
+    float fog_f = fog_range == 0.0 ? (fog_c < fog_data[1].y ? 1.0 : 0.0) : saturate((fog_data[1].y - fog_c) / fog_range);
+",
         ),
     }
 }
@@ -64,15 +72,15 @@ fn put_fog_factor(out: &mut [u8], at: usize, mode: u8) -> usize
 fn put_fog(out: &mut [u8], at: usize, v: Variant) -> usize
     ensures { λ r. ⌜ Wrote (now (out .entry)) at (now (out .exit)) r (fogText v) ⌝ }
 {
-    if v.fog_table_mode == 0 {
+    if v.fog_table_mode == D3DFOG_NONE {
         put_when(
             out,
             at,
-            v.fog_mode != 0,
+            v.fog_mode != D3DFOG_NONE,
             b"    oC0 = float4(mix(fog_data[0].rgb, oC0.rgb, saturate(in.fog.x)), oC0.a);\n",
         )
     } else {
-        let w = fog_source_w(v);
+        let w = flag(v, FOG_SOURCE_W);
         let mut p = put_fog_depth(out, at, w);
         p = put_fog_factor(out, p, v.fog_table_mode);
         put(
@@ -83,18 +91,18 @@ fn put_fog(out: &mut [u8], at: usize, v: Variant) -> usize
     }
 }
 
-// By Microsoft's D3DCMP codes; those above 8 test true.
+// A code that Microsoft does not name tests true.
 fn put_comparison(out: &mut [u8], at: usize, f: u8) -> usize
     ensures { λ r. ⌜ Wrote (now (out .entry)) at (now (out .exit)) r (comparisonText f) ⌝ }
 {
     match f {
-        1 => put(out, at, b"false"),
-        2 => put(out, at, b"oC0.a < alpha_ref"),
-        3 => put(out, at, b"oC0.a == alpha_ref"),
-        4 => put(out, at, b"oC0.a <= alpha_ref"),
-        5 => put(out, at, b"oC0.a > alpha_ref"),
-        6 => put(out, at, b"oC0.a != alpha_ref"),
-        7 => put(out, at, b"oC0.a >= alpha_ref"),
+        D3DCMP_NEVER => put(out, at, b"false"),
+        D3DCMP_LESS => put(out, at, b"oC0.a < alpha_ref"),
+        D3DCMP_EQUAL => put(out, at, b"oC0.a == alpha_ref"),
+        D3DCMP_LESSEQUAL => put(out, at, b"oC0.a <= alpha_ref"),
+        D3DCMP_GREATER => put(out, at, b"oC0.a > alpha_ref"),
+        D3DCMP_NOTEQUAL => put(out, at, b"oC0.a != alpha_ref"),
+        D3DCMP_GREATEREQUAL => put(out, at, b"oC0.a >= alpha_ref"),
         _ => put(out, at, b"true"),
     }
 }
@@ -124,7 +132,7 @@ fn put_srgb(out: &mut [u8], at: usize, on: bool) -> usize
 fn put_return(out: &mut [u8], at: usize, v: Variant) -> usize
     ensures { λ r. ⌜ Wrote (now (out .entry)) at (now (out .exit)) r (returnText v) ⌝ }
 {
-    if sample_mask(v) {
+    if flag(v, SAMPLE_MASK) {
         let mut p = put(out, at, b"    return FfPsOut { oC0, ");
         p = put_decimal(out, p, v.sample_mask);
         put(out, p, b"u };\n}\n")
@@ -136,7 +144,7 @@ fn put_return(out: &mut [u8], at: usize, v: Variant) -> usize
 pub fn put_output(out: &mut [u8], at: usize, specular: bool, v: Variant) -> usize
     ensures { λ r. ⌜ Wrote (now (out .entry)) at (now (out .exit)) r (outputText specular v) ⌝ }
 {
-    let srgb = srgb_write(v);
+    let srgb = flag(v, SRGB_WRITE);
     let mut p = put_specular(out, at, specular);
     p = put_fog(out, p, v);
     p = put_test(out, p, v);

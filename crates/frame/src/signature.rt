@@ -8,9 +8,10 @@ use text::put_numbered;
 use text::put_when;
 use values::Key;
 use values::Variant;
+use variants::bits::LOD_BIAS;
+use variants::bits::POINT_SPRITE;
+use variants::bits::flag;
 use variants::bits::fogged;
-use variants::bits::lod_bias;
-use variants::bits::point_sprite;
 use variants::bits::tested;
 use variants::kinds::texture_type_of;
 ghost use Prim.Native.Nat.{_<_};
@@ -23,7 +24,7 @@ ghost use Rattle.cascade.specs.Survey.{surveyOf};
 ghost use Rattle.shader.specs.Lookups.{typeText};
 ghost use Rattle.shader.specs.Whole.{stageInText, textureParameter, samplerParameter, samplersText, parametersText, spriteText, localsText};
 
-// Up to the constants.
+// The parameters up to the constants.
 fn put_stage_in(out: &mut [u8], at: usize, sprite: bool) -> usize
     ensures { λ r. ⌜ Wrote (now (out .entry)) at (now (out .exit)) r (stageInText sprite ⊕ lit "    constant float4 *ps_c [[buffer(15)]]") ⌝ }
 {
@@ -31,7 +32,10 @@ fn put_stage_in(out: &mut [u8], at: usize, sprite: bool) -> usize
         out,
         at,
         sprite,
-        b"(\n    Varyings in_stage [[stage_in]],\n    float2 point_coord [[point_coord]],\n    constant float4 *ps_c [[buffer(15)]]",
+        b"(
+    Varyings in_stage [[stage_in]],
+    float2 point_coord [[point_coord]],
+    constant float4 *ps_c [[buffer(15)]]",
         b"(\n    Varyings in [[stage_in]],\n    constant float4 *ps_c [[buffer(15)]]",
     )
 }
@@ -78,7 +82,16 @@ pub fn put_sprite(out: &mut [u8], at: usize, sprite: bool) -> usize
         return put(
             out,
             at,
-            b"    Varyings in = in_stage;\n    in.texcoord0 = float4(point_coord.x, point_coord.y, 0.0, 0.0);\n    in.texcoord1 = float4(point_coord.x, point_coord.y, 0.0, 0.0);\n    in.texcoord2 = float4(point_coord.x, point_coord.y, 0.0, 0.0);\n    in.texcoord3 = float4(point_coord.x, point_coord.y, 0.0, 0.0);\n    in.texcoord4 = float4(point_coord.x, point_coord.y, 0.0, 0.0);\n    in.texcoord5 = float4(point_coord.x, point_coord.y, 0.0, 0.0);\n    in.texcoord6 = float4(point_coord.x, point_coord.y, 0.0, 0.0);\n    in.texcoord7 = float4(point_coord.x, point_coord.y, 0.0, 0.0);\n",
+            b"    Varyings in = in_stage;
+    in.texcoord0 = float4(point_coord.x, point_coord.y, 0.0, 0.0);
+    in.texcoord1 = float4(point_coord.x, point_coord.y, 0.0, 0.0);
+    in.texcoord2 = float4(point_coord.x, point_coord.y, 0.0, 0.0);
+    in.texcoord3 = float4(point_coord.x, point_coord.y, 0.0, 0.0);
+    in.texcoord4 = float4(point_coord.x, point_coord.y, 0.0, 0.0);
+    in.texcoord5 = float4(point_coord.x, point_coord.y, 0.0, 0.0);
+    in.texcoord6 = float4(point_coord.x, point_coord.y, 0.0, 0.0);
+    in.texcoord7 = float4(point_coord.x, point_coord.y, 0.0, 0.0);
+",
         );
     }
     at
@@ -115,7 +128,7 @@ pub fn put_parameters(out: &mut [u8], at: usize, k: Key, v: Variant, u: Survey) 
     requires { ⌜ u ≡ surveyOf (k .stages) ⌝ }
     ensures { λ r. ⌜ Wrote (now (out .entry)) at (now (out .exit)) r (parametersText v (active (k .stages))) ⌝ }
 {
-    let mut p = put_stage_in(out, at, point_sprite(v));
+    let mut p = put_stage_in(out, at, flag(v, POINT_SPRITE));
     p = put_when(
         out,
         p,
@@ -137,7 +150,7 @@ pub fn put_parameters(out: &mut [u8], at: usize, k: Key, v: Variant, u: Survey) 
     p = put_when(
         out,
         p,
-        lod_bias(v),
+        flag(v, LOD_BIAS),
         b",\n    constant float4 *lod_bias [[buffer(11)]]",
     );
     p = put_samplers(out, p, k, u.count, v);

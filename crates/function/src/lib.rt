@@ -12,7 +12,8 @@ use text::put;
 use values::Entry;
 use values::Key;
 use values::Variant;
-use variants::bits::point_sprite;
+use variants::bits::POINT_SPRITE;
+use variants::bits::flag;
 ghost use Prim.Native.Nat.{_≤_};
 ghost use mathlib.Core.Path.{_≡_};
 ghost use Rattle.text.specs.Buffer.{Wrote};
@@ -34,15 +35,15 @@ pub fn put_whole(out: &mut [u8], k: Key, v: Variant, e: Entry, u: Survey) -> Pla
 {
     let name = e.name;
     let end = e.len as usize;
-    let a = put_front(out, 0, v);
-    let b = put(out, a, &name[..end]);
-    let c = put_parameters(out, b, k, v, u);
-    let d = put_sprite(out, c, point_sprite(v));
-    let l = put_locals(out, d, u.live);
-    let p = put_stages(out, l, k, v, u);
-    let r = put_output(out, p.at, k.specular_add, v);
+    let mut p = put_front(out, 0, v);
+    p = put(out, p, &name[..end]);
+    p = put_parameters(out, p, k, v, u);
+    p = put_sprite(out, p, flag(v, POINT_SPRITE));
+    p = put_locals(out, p, u.live);
+    let stages = put_stages(out, p, k, v, u);
+    p = put_output(out, stages.at, k.specular_add, v);
     Place {
-        at: r,
-        lookups: p.lookups,
+        at: p,
+        lookups: stages.lookups,
     }
 }

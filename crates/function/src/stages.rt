@@ -15,8 +15,9 @@ use shader::Before;
 use values::Key;
 use values::Stage;
 use values::Variant;
+use variants::bits::LOD_BIAS;
 use variants::bits::bit;
-use variants::bits::lod_bias;
+use variants::bits::flag;
 use variants::kinds::lookup_of;
 ghost use Prim.Native.Nat.{_<_, suc};
 ghost use mathlib.Core.Path.{_≡_};
@@ -63,7 +64,15 @@ fn put_marked(
 {
     if marked {
         let f = lookup_of(v, i);
-        let a = put_sample(out, at, before, f, lod_bias(v), bit(projected as u16, i), i);
+        let a = put_sample(
+            out,
+            at,
+            before,
+            f,
+            flag(v, LOD_BIAS),
+            bit(projected as u16, i),
+            i,
+        );
         return Place {
             at: a,
             lookups: lookups + 1,

@@ -13,18 +13,27 @@ use Rattle.shader.specs.Order.{Precedes}
 use Rattle.shader.specs.declared.Before.the-variants.{Ordinary, Displacing}
 
 -- two components or three, the dot in front of them
-pub dotted : (three : Bool) → flat (pick three (lit ".xyz") (lit ".xy")) ≡ flat (lit "." ⊕ pick three (lit "xyz") (lit "xy"))
-dotted true = refl
-dotted false = refl
+dot-bytes : (three : Bool) → flat (pick three (lit ".xyz") (lit ".xy")) ≡ flat (lit "." ⊕ pick three (lit "xyz") (lit "xy"))
+dot-bytes true = refl
+dot-bytes false = refl
 
 -- how a projected coordinate ends
-pub zeroed : (three : Bool) → flat (pick three (lit " : float3(0.0))") (lit " : float2(0.0))")) ≡ flat (lit " : " ⊕ pick three (lit "float3(0.0)") (lit "float2(0.0)") ⊕ lit ")")
-zeroed true = refl
-zeroed false = refl
+zero-bytes : (three : Bool)
+    → flat (pick three (lit " : float3(0.0))") (lit " : float2(0.0))")) ≡ flat (lit " : " ⊕ pick three (lit "float3(0.0)") (lit "float2(0.0)") ⊕ lit ")")
+zero-bytes true = refl
+zero-bytes false = refl
 
--- three pieces, and a text behind them
-pub regroup : {l l′ : List ℕ} {a a′ : ℕ} {s t u v : Text} → Wrote l a l′ a′ ((s ⊕ t ⊕ u) ⊕ v) → Wrote l a l′ a′ (s ⊕ t ⊕ u ⊕ v)
-regroup w = same (simp append-assoc) w
+module _ {l l′ : List ℕ} {a a′ : ℕ} where
+  pub dotted : {three : Bool} → Wrote l a l′ a′ (pick three (lit ".xyz") (lit ".xy")) → Wrote l a l′ a′ (lit "." ⊕ pick three (lit "xyz") (lit "xy"))
+  dotted {three} w = same (dot-bytes three) w
+
+  pub zeroed : {three : Bool} → Wrote l a l′ a′ (pick three (lit " : float3(0.0))") (lit " : float2(0.0))"))
+      → Wrote l a l′ a′ (lit " : " ⊕ pick three (lit "float3(0.0)") (lit "float2(0.0)") ⊕ lit ")")
+  zeroed {three} w = same (zero-bytes three) w
+
+  -- three pieces, and a text behind them
+  pub regroup : {s t u v : Text} → Wrote l a l′ a′ ((s ⊕ t ⊕ u) ⊕ v) → Wrote l a l′ a′ (s ⊕ t ⊕ u ⊕ v)
+  regroup w = same (simp append-assoc) w
 
 displaces : (b tex lum : Bool) (n i : ℕ) → n < i → Precedes (cond b (Displacing n tex lum) Ordinary) i
 displaces true tex lum n i h = h

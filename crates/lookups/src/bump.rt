@@ -16,6 +16,9 @@ ghost use Rattle.combiners.specs.Arguments.{texelName};
 ghost use Rattle.shader.specs.Lookups.{coordinateText, bumpRow, lookupText, dividedLine, movedText, displacedLine, displacementText, luminanceLine, sampleText};
 ghost use Rattle.shader.specs.Order.{Precedes};
 
+// The rows of `bump_env` that a stage has: its matrix, then its luminance.
+const ROWS: u8 = 2;
+
 fn put_bump_row(out: &mut [u8], at: usize, k: u8) -> usize
     ensures { λ r. ⌜ Wrote (now (out .entry)) at (now (out .exit)) r (bumpRow k) ⌝ }
 {
@@ -42,7 +45,7 @@ fn put_entry(out: &mut [u8], at: usize, n: u8, entry: &[u8]) -> usize
     requires { ⌜ n < 8 ⌝ }
     ensures { λ r. ⌜ Wrote (now (out .entry)) at (now (out .exit)) r (bumpRow (2 * n) ⊕ numbered n (now (entry .entry))) ⌝ }
 {
-    let p = put_bump_row(out, at, 2 * n);
+    let p = put_bump_row(out, at, ROWS * n);
     put_numbered(out, p, entry, n)
 }
 
@@ -94,7 +97,7 @@ fn put_scaled(out: &mut [u8], at: usize, tex: bool, n: u8) -> usize
 {
     if tex {
         let mut p = put_numbered(out, at, b"t#.z * ", n);
-        p = put_bump_row(out, p, 2 * n + 1);
+        p = put_bump_row(out, p, ROWS * n + 1);
         return put(out, p, b".x + ");
     }
     at
@@ -108,7 +111,7 @@ fn put_luminance_line(out: &mut [u8], at: usize, tex: bool, i: u8, n: u8) -> usi
 {
     let mut p = put_numbered(out, at, b"    t# *= saturate(", i);
     p = put_scaled(out, p, tex, n);
-    p = put_bump_row(out, p, 2 * n + 1);
+    p = put_bump_row(out, p, ROWS * n + 1);
     put(out, p, b".y);\n")
 }
 

@@ -11,8 +11,10 @@ use Rattle.text.specs.Text.{Text, flat, _⊕_, digit, decimalOf}
 use Rattle.text.specs.Buffer.{Wrote}
 use Rattle.text.proofs.Laws.{whole, pick-true, pick-false, one-digit}
 use Rattle.values.specs.declared.Emitted.{Emitted}
+use Rattle.values.specs.Refusals.{numberOf}
+use Rattle.values.specs.declared.Refusal.{Refusal}
 use Rattle.printout.specs.Program.{emitText, emitLine, endText, endLine, refusedText, refusedLine}
-use Rattle.printout.specs.Steps.{lineAfter}
+use Rattle.printout.specs.Program.{lineAfter}
 
 pub digits-one : {l l′ : List ℕ} {a a′ : ℕ} (d n : ℕ) → (d ≡ 0 → ⊥) → n < 10 → Wrote l a l′ a′ (digit (n % 10)) → Wrote l a l′ a′ (decimalOf d n)
 unfolding decimalOf
@@ -43,9 +45,9 @@ end-short : (n : ℕ) → length (endLine n) ≤ 89
 unfolding endLine
 end-short n = simp length-append (omega (arith, digits-short 20 n))
 
-refused-short : (n p : ℕ) → length (refusedLine n p) ≤ 89
+refused-short : (c : Refusal) (p : ℕ) → length (refusedLine c p) ≤ 89
 unfolding refusedLine
-refused-short n p = simp length-append (omega (arith, digits-short 20 n, digits-short 20 p))
+refused-short c p = simp length-append (omega (arith, digits-short 20 (numberOf c), digits-short 20 p))
 
 -- A line in a buffer with room for it: its length is answered, and the bytes behind it stay.
 abbrev Line : List ℕ → List ℕ → List ℕ → ℕ → Type 0
@@ -62,6 +64,6 @@ pub end-line : {l l′ : List ℕ} {n : ℕ} (m : ℕ) → Wrote l 0 l′ n (end
 unfolding endLine
 end-line m w h = front-line w (end-short m) h
 
-pub refused-line : {l l′ : List ℕ} {n : ℕ} (m p : ℕ) → Wrote l 0 l′ n (refusedText m p) → length l ≡ 96 → Line (refusedLine m p) l l′ n
+pub refused-line : {l l′ : List ℕ} {n : ℕ} (c : Refusal) (p : ℕ) → Wrote l 0 l′ n (refusedText c p) → length l ≡ 96 → Line (refusedLine c p) l l′ n
 unfolding refusedLine
-refused-line m p w h = front-line w (refused-short m p) h
+refused-line c p w h = front-line w (refused-short c p) h

@@ -18,7 +18,7 @@ use Rattle.printout.specs.Steps.{Step, begun, onwards, lastStep, answere
 use Rattle.printout.specs.declared.Session.{Session}
 use Rattle.printout.specs.declared.Printing.{Printing}
 use Rattle.printout.proofs.Taking.{Takes, takes, Sized, sized}
-use Rattle.printout.proofs.Steps.{used-up, answered}
+use Rattle.printout.proofs.Steps.{used-up, at-record}
 
 -- what a step says of the next
 abbrev Onward : Session → List ℕ → Step → Type 0
@@ -122,7 +122,7 @@ left-step s b out w t = go (eqb (s .at) (length b)) refl
     go false q =
         let k = eqb-false _ _ q in
         let l : s .at < length b = strict k in
-        rw (answered s b out w t k {x = applied (s .held) (drop (s .at) b) textRoom} refl refl)
+        rw (at-record s b out w t k)
         (left-turn s b l ∙ answered-left (applyAnswer (s .held) (drop (s .at) b) textRoom) (applied (s .held) (drop (s .at) b) textRoom .held) s b out (sized (s .held) (drop (s .at) b) textRoom))
       where
         strict : (s .at ≡ length b → ⊥) → s .at < length b

@@ -9,7 +9,8 @@ use Rattle.text.specs.Format.{format, _≔_}
 use Rattle.shader.specs.Results.{textOf}
 use Rattle.values.specs.declared.Emitted.{Emitted}
 use Rattle.values.specs.Refusals.{numberOf}
-use Rattle.wire.specs.Reading.{refused}
+use Rattle.values.specs.declared.Refusal.{Refusal}
+use Rattle.values.specs.declared.Refusal.the-variants.{InputTooLong}
 use Rattle.records.specs.Applying.{nothingHeld, applied}
 use Rattle.records.specs.declared.Held.{Held}
 use Rattle.records.specs.declared.ApplyAnswer.{ApplyAnswer}
@@ -39,17 +40,21 @@ unfoldable pub endLine : ℕ → List ℕ
 endLine n = flat (endText n)
 
 -- 01: "The program's last line is then `refused N at P`, P the offset of the kind byte, 32768 for 9; no `end`."
-abbrev pub refusedText : ℕ → ℕ → Text
-refusedText n p = format "refused {n} at {p}\n" (("n" ≔ decimal n) ∷ ("p" ≔ decimal p) ∷ [])
+abbrev pub refusedText : Refusal → ℕ → Text
+refusedText c p = format "refused {n} at {p}\n" (("n" ≔ decimal (numberOf c)) ∷ ("p" ≔ decimal p) ∷ [])
 
-unfoldable pub refusedLine : ℕ → ℕ → List ℕ
-refusedLine n p = flat (refusedText n p)
+unfoldable pub refusedLine : Refusal → ℕ → List ℕ
+refusedLine c p = flat (refusedText c p)
+
+-- a line at the front of its buffer; the bytes behind it stay
+abbrev pub lineAfter : List ℕ → List ℕ → List ℕ
+lineAfter line out = line ++ drop (length line) out
 
 -- what is printed for the answer to the record at offset p, h being held: go on m bytes further, with so many texts more, or stop
 unfoldable pub printed : ApplyAnswer → ℕ → Held → (ℕ → ℕ → List ℕ) → List ℕ
 printed (answer.Replaced m) p h goOn = goOn m 0
 printed (answer.Text m e) p h goOn = emitLine e ++ (textOf (h .key) (h .variant) (h .entry) ++ goOn m 1)
-printed (answer.Refused c) p h goOn = refusedLine (numberOf c) p
+printed (answer.Refused c) p h goOn = refusedLine c p
 
 -- What is printed for the bytes b from offset p on, behind n texts. 01: "the program stops with `end` when its input is used up." Each record
 -- takes a byte at least, so there are as many turns as bytes, or more.
@@ -61,4 +66,4 @@ printedFrom (suc turns) p n h b =
 
 -- 9: "program input above 32,768 bytes": "the line", "no record read"
 unfoldable pub programOutput : List ℕ → List ℕ
-programOutput input = cond (ltb inputRoom (length input)) (refusedLine 9 inputRoom) (printedFrom (length input) 0 0 nothingHeld input)
+programOutput input = cond (ltb inputRoom (length input)) (refusedLine InputTooLong inputRoom) (printedFrom (length input) 0 0 nothingHeld input)

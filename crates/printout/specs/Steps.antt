@@ -2,10 +2,9 @@
 -- 01: "the program stops with `end` when its input is used up."
 use Prim.Native.Nat.{ℕ, _+_}
 use mathlib.Core.Bool.{Bool, true, false, _&&_, cond}
-use mathlib.Core.List.{List, [], _++_}
+use mathlib.Core.List.{List, []}
 use lib.Dec.{eqb, leb}
 use lib.ListN.{length, drop}
-use Rattle.values.specs.Refusals.{numberOf}
 use Rattle.records.specs.Applying.{nothingHeld, textAfter, applied}
 use Rattle.records.specs.declared.Held.{Held}
 use Rattle.records.specs.declared.ApplyAnswer.{ApplyAnswer}
@@ -43,20 +42,18 @@ answeredStep (answer.Text m e) h s out =
       line = emitLine e;
       text = textAfter (answer.Text m e) (s .held) out;
     }
-answeredStep (answer.Refused c) h s out = lastStep (refusedLine (numberOf c) (s .at)) s out
+answeredStep (answer.Refused c) h s out = lastStep (refusedLine c (s .at)) s out
 
--- a session that stands in the input b, with no more texts than bytes passed
+-- for the record where the session stands
+abbrev pub recordStep : Session → List ℕ → List ℕ → Step
+recordStep s b out =
+    answeredStep (applied (s .held) (drop (s .at) b) textRoom .answer) (applied (s .held) (drop (s .at) b) textRoom .held) s out
+
+-- A session whose offset lies beyond the input, or that counts more texts than bytes read, cannot belong to this input.
 abbrev pub ready : Session → List ℕ → Bool
 ready s b = leb (s .at) (length b) && leb (s .texts) (s .at)
 
--- a session that is not ready prints nothing, and all is left
+-- a session that cannot belong to the input b prints nothing, and all is left
 unfoldable pub stepOf : Session → List ℕ → List ℕ → Step
 stepOf s b out =
-    cond (ready s b)
-    (cond (eqb (s .at) (length b)) (lastStep (endLine (s .texts)) s out)
-    (answeredStep (applied (s .held) (drop (s .at) b) textRoom .answer) (applied (s .held) (drop (s .at) b) textRoom .held) s out))
-    (lastStep [] s out)
-
--- a line at the front of its buffer; the bytes behind it stay
-abbrev pub lineAfter : List ℕ → List ℕ → List ℕ
-lineAfter line out = line ++ drop (length line) out
+    cond (ready s b) (cond (eqb (s .at) (length b)) (lastStep (endLine (s .texts)) s out) (recordStep s b out)) (lastStep [] s out)

@@ -3,9 +3,19 @@ use text::put;
 use text::put_decimal;
 use text::put_digit;
 use values::Emitted;
+use values::Refusal;
+use values::number;
+ghost use mathlib.Core.Path.{_≡_};
+ghost use lib.ListN.{length};
 ghost use Rattle.text.specs.Text.{decimal, decimalOf};
 ghost use Rattle.text.specs.Buffer.{Wrote};
-ghost use Rattle.printout.specs.Program.{emitText, endText, refusedText};
+ghost use Rattle.printout.specs.Program.{emitLine, endLine, lineAfter, refusedLine};
+
+// No line is longer.
+pub const LINE_LENGTH: usize = 96;
+
+// The most digits that a number of 64 bits has.
+const DIGITS: u8 = 20;
 
 // A number in decimal, of so many digits at most.
 fn put_digits(out: &mut [u8], at: usize, digits: u8, n: usize) -> usize
@@ -24,37 +34,40 @@ fn put_digits(out: &mut [u8], at: usize, digits: u8, n: usize) -> usize
 fn put_number(out: &mut [u8], at: usize, n: usize) -> usize
     ensures { λ r. ⌜ Wrote (now (out .entry)) at (now (out .exit)) r (decimal n) ⌝ }
 {
-    put_digits(out, at, 20, n)
+    put_digits(out, at, DIGITS, n)
 }
 
-pub fn put_emit_line(out: &mut [u8], emitted: Emitted) -> usize
-    ensures { λ r. ⌜ Wrote (now (out .entry)) 0 (now (out .exit)) r (emitText emitted) ⌝ }
+pub fn put_emit_line(line: &mut [u8; LINE_LENGTH], emitted: Emitted) -> usize
+    ensures length { λ r. ⌜ r ≡ length (emitLine emitted) ⌝ }
+    ensures line { λ _. ⌜ now (line .exit) ≡ lineAfter (emitLine emitted) (now (line .entry)) ⌝ }
 {
-    let a = put(out, 0, b"emit ");
-    let b = put_decimal(out, a, emitted.mask);
-    let c = put(out, b, b" ");
-    let d = put_decimal(out, c, emitted.rows);
-    let e = put(out, d, b" ");
-    let f = put_decimal(out, e, emitted.lookups);
-    let g = put(out, f, b" ");
-    let h = put_decimal(out, g, emitted.warning);
-    put(out, h, b"\n")
+    let a = put(line, 0, b"emit ");
+    let b = put_decimal(line, a, emitted.mask);
+    let c = put(line, b, b" ");
+    let d = put_decimal(line, c, emitted.rows);
+    let e = put(line, d, b" ");
+    let f = put_decimal(line, e, emitted.lookups);
+    let g = put(line, f, b" ");
+    let h = put_decimal(line, g, emitted.warning);
+    put(line, h, b"\n")
 }
 
-pub fn put_end_line(out: &mut [u8], texts: usize) -> usize
-    ensures { λ r. ⌜ Wrote (now (out .entry)) 0 (now (out .exit)) r (endText texts) ⌝ }
+pub fn put_end_line(line: &mut [u8; LINE_LENGTH], texts: usize) -> usize
+    ensures length { λ r. ⌜ r ≡ length (endLine texts) ⌝ }
+    ensures line { λ _. ⌜ now (line .exit) ≡ lineAfter (endLine texts) (now (line .entry)) ⌝ }
 {
-    let a = put(out, 0, b"end ");
-    let b = put_number(out, a, texts);
-    put(out, b, b"\n")
+    let a = put(line, 0, b"end ");
+    let b = put_number(line, a, texts);
+    put(line, b, b"\n")
 }
 
-pub fn put_refused_line(out: &mut [u8], number: u8, place: usize) -> usize
-    ensures { λ r. ⌜ Wrote (now (out .entry)) 0 (now (out .exit)) r (refusedText number place) ⌝ }
+pub fn put_refused_line(line: &mut [u8; LINE_LENGTH], refusal: Refusal, place: usize) -> usize
+    ensures length { λ r. ⌜ r ≡ length (refusedLine refusal place) ⌝ }
+    ensures line { λ _. ⌜ now (line .exit) ≡ lineAfter (refusedLine refusal place) (now (line .entry)) ⌝ }
 {
-    let a = put(out, 0, b"refused ");
-    let b = put_decimal(out, a, number);
-    let c = put(out, b, b" at ");
-    let d = put_number(out, c, place);
-    put(out, d, b"\n")
+    let a = put(line, 0, b"refused ");
+    let b = put_decimal(line, a, number(refusal));
+    let c = put(line, b, b" at ");
+    let d = put_number(line, c, place);
+    put(line, d, b"\n")
 }

@@ -3,13 +3,16 @@
 use Prim.Native.Nat.{ℕ}
 use mathlib.Core.Bool.{Bool, true, false, _&&_, cond}
 use mathlib.Core.List.{List}
-use Rattle.shader.specs.Results.{textOf, answerOf}
-use Rattle.shader.specs.Results as emission
-use Rattle.shader.specs.Demand as demand
+use lib.Dec.{eqb}
+use lib.ListN.{getD}
+use Rattle.values.specs.Refusals.{numberOf}
+use Rattle.shader.specs.Results.{textOf, answerOf, bufferAfter, emissionNumber}
+use Rattle.shader.specs.Demand.{Demanded}
 use Rattle.values.specs.declared.Answer.{Answer}
 use Rattle.values.specs.declared.Answer.the-variants as emission-answer
-use Rattle.wire.specs.Values.{blank}
-use Rattle.wire.specs.Reading.{readRecord}
+use Rattle.wire.specs.Values.{blankKey, blankVariant, blankEntry}
+use Rattle.wire.specs.Bodies.{kindByte}
+use Rattle.wire.specs.Reading.{readRecord, recordNumber}
 use Rattle.wire.specs.declared.Kind.{Kind}
 use Rattle.wire.specs.declared.Kind.the-variants as kind
 use Rattle.wire.specs.declared.Record.{Record}
@@ -22,16 +25,10 @@ use Rattle.records.specs.declared.ApplyAnswer.{ApplyAnswer}
 use Rattle.records.specs.declared.ApplyAnswer.the-variants.{Replaced, Text, Refused}
 use Rattle.records.specs.declared.Applied.{Applied}
 
-unfoldable pub nothingHeld : Held
+-- what is held at first: nothing, and blank values in its place
+abbrev pub nothingHeld : Held
 nothingHeld =
-    record {
-      «has_key» = false;
-      key = blank kind.Emit .key;
-      «has_variant» = false;
-      variant = blank kind.Emit .variant;
-      «has_entry» = false;
-      entry = blank kind.Emit .entry;
-    }
+    record { «has_key» = false; key = blankKey; «has_variant» = false; variant = blankVariant; «has_entry» = false; entry = blankEntry }
 
 -- 7: "emit before key, variant and entry"
 abbrev pub holdsAll : Held → Bool
@@ -47,31 +44,25 @@ holding kind.Entry r h =
     record { «has_key» = h .«has_key»; key = h .key; «has_variant» = h .«has_variant»; variant = h .variant; «has_entry» = true; entry = r .entry }
 holding kind.Emit r h = h
 
--- a record that took n bytes, whose value is held now
-abbrev pub replacedBy : ℕ → Held → Applied
-replacedBy n h = record { answer = Replaced n; held = h }
-
--- a refused record, with what is held then
-abbrev pub refusedWith : Refusal → Held → Applied
-refusedWith c h = record { answer = Refused c; held = h }
-
--- n is how many bytes the record took
+-- emission's answer, to a record that took n bytes
 abbrev pub emissionAnswer : ℕ → Answer → ApplyAnswer
 emissionAnswer n (emission-answer.Text e) = Text n e
 emissionAnswer n (emission-answer.Refused c) = Refused c
 
--- 01: "The text and result of an accepted emit record are those of emission from the held key, variant and entry into the same buffer." room is
--- the buffer's length.
+-- What is answered to a record of each kind that took n bytes, room being the length of the buffer for the text. 01: "The text and result of an
+-- accepted emit record are those of emission from the held key, variant and entry into the same buffer."
 unfoldable pub applyAs : Kind → ℕ → Held → ℕ → ApplyAnswer
 applyAs kind.Key n h room = Replaced n
 applyAs kind.Variant n h room = Replaced n
 applyAs kind.Entry n h room = Replaced n
 applyAs kind.Emit n h room = cond (holdsAll h) (emissionAnswer n (answerOf (h .key) (h .variant) (h .entry) room)) (Refused EmitTooEarly)
 
+-- by what was read
 unfoldable pub applyRead : ReadAnswer → Record → Held → ℕ → ApplyAnswer
 applyRead (read.Took n) r h room = applyAs (r .kind) n h room
 applyRead (read.Refused c) r h room = Refused c
 
+-- to the record at the front of b
 abbrev pub applyAnswer : Held → List ℕ → ℕ → ApplyAnswer
 applyAnswer h b room = applyRead (readRecord b .answer) (readRecord b .found) h room
 
@@ -83,15 +74,32 @@ heldAfter (Refused c) r h = h
 
 abbrev pub textAfter : ApplyAnswer → Held → List ℕ → List ℕ
 textAfter (Replaced n) h out = out
-textAfter (Text n e) h out = emission.bufferAfter (emission-answer.Text e) (textOf (h .key) (h .variant) (h .entry)) out
+textAfter (Text n e) h out = bufferAfter (emission-answer.Text e) (textOf (h .key) (h .variant) (h .entry)) out
 textAfter (Refused c) h out = out
 
--- what applying the record at the front of b answers, and what is held then
+-- what is answered to the record at the front of b, and what is held then
 abbrev pub applied : Held → List ℕ → ℕ → Applied
 applied h b room = record { answer = applyAnswer h b room; held = heldAfter (applyAnswer h b room) (readRecord b .found) h }
 
 -- demand 3 of an accepted emit record, and of the bytes that the buffer then holds, is that of emission
-abbrev pub Demanded : Held → ApplyAnswer → List ℕ → Type 0
-Demanded h (Replaced n) out = Unit {0}
-Demanded h (Text n e) out = demand.Demanded (h .key) (emission-answer.Text e) out
-Demanded h (Refused c) out = Unit {0}
+abbrev pub AppliedDemand3 : Held → ApplyAnswer → List ℕ → Type 0
+AppliedDemand3 h (Replaced n) out = Unit {0}
+AppliedDemand3 h (Text n e) out = Demanded (h .key) (emission-answer.Text e) out
+AppliedDemand3 h (Refused c) out = Unit {0}
+
+-- The numbers of 01's table.
+
+-- of an answer: 0 for a record that is accepted
+abbrev pub applyNumber : ApplyAnswer → ℕ
+applyNumber (Replaced n) = 0
+applyNumber (Text n e) = 0
+applyNumber (Refused c) = numberOf c
+
+-- of an emit record: 7, then emission's 3, 5, 6 and 8, in that order; 0 where none of them holds
+unfoldable pub emitNumber : Held → ℕ → ℕ
+emitNumber h room = cond (holdsAll h) (emissionNumber (h .key) (h .variant) (h .entry) room) 7
+
+-- of some bytes: the reader's 2, 1, 3, 4, 5 and 6, and behind them those of an emit record; 0 where none of them holds
+unfoldable pub appliedNumber : Held → List ℕ → ℕ → ℕ
+appliedNumber h b room =
+    cond (eqb (recordNumber b) 0) (cond (eqb (getD b 0 0) (kindByte kind.Emit)) (emitNumber h room) 0) (recordNumber b)

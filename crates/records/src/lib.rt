@@ -14,7 +14,7 @@ use wire::make::blank_record;
 use wire::reader::read;
 ghost use mathlib.Core.Path.{_≡_};
 ghost use lib.ListN.{length};
-ghost use Rattle.records.specs.Applying.{Demanded, applied, applyAs, holding, holdsAll, nothingHeld, refusedWith, replacedBy, textAfter};
+ghost use Rattle.records.specs.Applying.{AppliedDemand3, applied, appliedNumber, applyAs, applyNumber, emitNumber, holding, holdsAll, nothingHeld, textAfter};
 
 // The held values, each there or not.
 pub struct Held {
@@ -57,52 +57,31 @@ pub fn nothing_held() -> Held
 }
 
 // What is held once the record's value is.
-fn hold_key(found: Record, held: Held) -> Held
-    ensures { λ r. ⌜ r ≡ holding Kind.Key found held ⌝ }
+fn hold(found: Record, held: Held) -> Held
+    ensures { λ r. ⌜ r ≡ holding (found .kind) found held ⌝ }
 {
+    let kind = found.kind;
     let key = found.key;
-    let mut after = held;
-    after.has_key = true;
-    after.key = key;
-    after
-}
-
-fn hold_variant(found: Record, held: Held) -> Held
-    ensures { λ r. ⌜ r ≡ holding Kind.Variant found held ⌝ }
-{
     let variant = found.variant;
-    let mut after = held;
-    after.has_variant = true;
-    after.variant = variant;
-    after
-}
-
-fn hold_entry(found: Record, held: Held) -> Held
-    ensures { λ r. ⌜ r ≡ holding Kind.Entry found held ⌝ }
-{
     let entry = found.entry;
     let mut after = held;
-    after.has_entry = true;
-    after.entry = entry;
-    after
-}
-
-fn replaced(n: usize, after: Held) -> Applied
-    ensures { λ r. ⌜ r ≡ replacedBy n after ⌝ }
-{
-    Applied {
-        answer: ApplyAnswer::Replaced(n),
-        held: after,
-    }
-}
-
-// A refusal leaves what is held.
-fn refused(refusal: Refusal, kept: Held) -> Applied
-    ensures { λ r. ⌜ r ≡ refusedWith refusal kept ⌝ }
-{
-    Applied {
-        answer: ApplyAnswer::Refused(refusal),
-        held: kept,
+    match kind {
+        Kind::Key => {
+            after.has_key = true;
+            after.key = key;
+            after
+        }
+        Kind::Variant => {
+            after.has_variant = true;
+            after.variant = variant;
+            after
+        }
+        Kind::Entry => {
+            after.has_entry = true;
+            after.entry = entry;
+            after
+        }
+        Kind::Emit => after,
     }
 }
 
@@ -116,7 +95,8 @@ fn holds_all(held: Held) -> bool
 pub fn emit_held(held: Held, n: usize, text: &mut [u8]) -> ApplyAnswer
     ensures answer { λ r. ⌜ r ≡ applyAs Kind.Emit n held (length (now (text .entry))) ⌝ }
     ensures buffer { λ r. ⌜ now (text .exit) ≡ textAfter r held (now (text .entry)) ⌝ }
-    ensures names { λ r. ⌜ Demanded held r (now (text .exit)) ⌝ }
+    ensures names { λ r. ⌜ AppliedDemand3 held r (now (text .exit)) ⌝ }
+    ensures number { λ r. ⌜ applyNumber r ≡ emitNumber held (length (now (text .entry))) ⌝ }
 {
     let key = held.key;
     let variant = held.variant;
@@ -134,18 +114,26 @@ pub fn emit_held(held: Held, n: usize, text: &mut [u8]) -> ApplyAnswer
 pub fn apply(held: Held, bytes: &[u8], text: &mut [u8]) -> Applied
     ensures answer { λ r. ⌜ r ≡ applied held (now (bytes .entry)) (length (now (text .entry))) ⌝ }
     ensures buffer { λ r. ⌜ now (text .exit) ≡ textAfter (r .answer) held (now (text .entry)) ⌝ }
-    ensures names { λ r. ⌜ Demanded held (r .answer) (now (text .exit)) ⌝ }
+    ensures names { λ r. ⌜ AppliedDemand3 held (r .answer) (now (text .exit)) ⌝ }
+    ensures number { λ r. ⌜ applyNumber (r .answer) ≡ appliedNumber held (now (bytes .entry)) (length (now (text .entry))) ⌝ }
 {
     let reading = read(bytes);
     let answer = reading.answer;
     let found = reading.found;
     let kind = found.kind;
     match answer {
-        ReadAnswer::Refused(refusal) => refused(refusal, held),
+        ReadAnswer::Refused(refusal) => Applied {
+            answer: ApplyAnswer::Refused(refusal),
+            held: held,
+        },
         ReadAnswer::Took(n) => match kind {
-            Kind::Key => replaced(n, hold_key(found, held)),
-            Kind::Variant => replaced(n, hold_variant(found, held)),
-            Kind::Entry => replaced(n, hold_entry(found, held)),
+            Kind::Key | Kind::Variant | Kind::Entry => {
+                let after = hold(found, held);
+                Applied {
+                    answer: ApplyAnswer::Replaced(n),
+                    held: after,
+                }
+            }
             Kind::Emit => {
                 let emitted = emit_held(held, n, text);
                 Applied {

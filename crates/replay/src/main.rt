@@ -1,12 +1,19 @@
-//! Replays the list of the Rust's answers, and prints which cases differ, and how many.
+//! Replays the list of the Rust's answers, and prints which cases differ, and how many. oracle/list/README.md says how the list is laid out.
 use libc::STDOUT_FILENO;
-use printout::Session;
+use printout::TEXT_LENGTH;
 use printout::begin;
+use printout::lines::LINE_LENGTH;
 use printout::step;
 ghost use Prim.Native.Nat.{_+_, _≤_, _<_};
 ghost use mathlib.Core.Path.{_≡_};
 ghost use mathlib.Core.Bool.{true};
 ghost use lib.ListN.{length};
+
+// No input and no output of the list is longer.
+const BLOCK_LENGTH: usize = 16384;
+
+// More cases than the list has.
+const MOST_CASES: usize = 100000;
 
 // Whether the first len bytes of s stand at a place of the expected bytes.
 fn stands(s: &[u8], len: usize, expected: &[u8], at: usize) -> bool
@@ -31,68 +38,57 @@ fn stands(s: &[u8], len: usize, expected: &[u8], at: usize) -> bool
     true
 }
 
-// A step: whether it printed what is expected at a place, the place behind, and the session that prints the rest, if there is more.
-struct Turn {
+// Whether a line and a text stand at a place of the expected bytes, and the place behind them.
+struct Compared {
     same: bool,
-    at: usize,
-    more: bool,
-    next: Session,
+    end: usize,
 }
 
-fn compare_step(
-    session: Session,
-    input: &[u8],
-    expected: &[u8],
-    at: usize,
-    line: &mut [u8; 96],
-    text: &mut [u8; 16384],
-) -> Turn
-    ensures { λ r. ⌜ (r .more ≡ true → (session .at < r .next .at) × (r .next .at ≤ length (now (input .entry)))) ⌝ }
-{
-    let printed = step(session, input, line, text);
-    let next = printed.next;
-    let n = printed.line;
-    let m = printed.text;
-    let more = printed.more;
-    if !stands(&line[..], n, expected, at) {
-        return Turn {
-            same: false,
-            at: at,
-            more: more,
-            next: next,
-        };
+fn compare(line: &[u8], n: usize, text: &[u8], m: usize, expected: &[u8], at: usize) -> Compared {
+    let differs = Compared {
+        same: false,
+        end: at,
+    };
+    if !stands(line, n, expected, at) {
+        return differs;
     }
     let behind = at + n;
-    if !stands(&text[..], m, expected, behind) {
-        return Turn {
-            same: false,
-            at: at,
-            more: more,
-            next: next,
-        };
+    if !stands(text, m, expected, behind) {
+        return differs;
     }
-    Turn {
+    Compared {
         same: true,
-        at: behind + m,
-        more: more,
-        next: next,
+        end: behind + m,
     }
 }
 
 // Whether what is printed for the input is what is expected.
-fn same_output(input: &[u8], expected: &[u8], line: &mut [u8; 96], text: &mut [u8; 16384]) -> bool {
+fn same_output(
+    input: &[u8],
+    expected: &[u8],
+    line: &mut [u8; LINE_LENGTH],
+    text: &mut [u8; TEXT_LENGTH],
+) -> bool {
     let mut session = begin();
     let mut at = 0;
     loop {
-        let turn = compare_step(session, input, expected, at, line, text);
-        if !turn.same {
+        let printed = step(session, input, line, text);
+        let compared = compare(
+            &line[..],
+            printed.line,
+            &text[..],
+            printed.text,
+            expected,
+            at,
+        );
+        if !compared.same {
             return false;
         }
-        at = turn.at;
-        if !turn.more {
+        at = compared.end;
+        if !printed.more {
             return at == expected.len();
         }
-        let next = turn.next;
+        let next = printed.next;
         session = next;
     }
 }
@@ -103,48 +99,43 @@ fn wide(x: u8) -> usize
     x as usize
 }
 
-// The number in four bytes at a place, the low byte first.
-fn number_at(list: &[u8], at: usize) -> usize
-    requires { ⌜ at + 4 ≤ length (now list) ⌝ }
-{
-    wide(list[at])
-        + 256 * wide(list[at + 1])
-        + 65536 * wide(list[at + 2])
-        + 16777216 * wide(list[at + 3])
+// The number in four bytes, the low byte first.
+fn number_in(bytes: &[u8; 4]) -> usize {
+    wide(bytes[0]) + 256 * wide(bytes[1]) + 65536 * wide(bytes[2]) + 16777216 * wide(bytes[3])
 }
 
-// A block of the list, behind its length in four bytes, from start to end; or none there.
+// A block of the list, an input or an output, which stands behind its length in four bytes. It is not there where the list ends, or is cut short.
 struct Block {
     there: bool,
-    start: usize,
-    end: usize,
+    ended: bool,
+    length: usize,
 }
 
-fn block_at(list: &[u8], at: usize) -> Block
-    ensures ordered { λ r. ⌜ r .start ≤ r .end ⌝ }
-    ensures within { λ r. ⌜ r .end ≤ length (now (list .entry)) ⌝ }
-    ensures behind { λ r. ⌜ (r .there ≡ true → at < r .end) ⌝ }
+fn read_block(fd: i32, block: &mut [u8]) -> Block
+    ensures { λ r. ⌜ r .length ≤ length (now (block .exit)) ⌝ }
 {
-    let none = Block {
-        there: false,
-        start: 0,
-        end: 0,
-    };
-    if list.len() < 4 {
-        return none;
+    let mut head = [0u8; 4];
+    let got = io::read_full(fd, &mut head);
+    let n = number_in(&head);
+    if got < 4 {
+        return Block {
+            there: false,
+            ended: got == 0,
+            length: 0,
+        };
     }
-    if list.len() - 4 < at {
-        return none;
+    if block.len() < n {
+        return Block {
+            there: false,
+            ended: false,
+            length: 0,
+        };
     }
-    let n = number_at(list, at);
-    let start = at + 4;
-    if list.len() - start < n {
-        return none;
-    }
+    let read = io::read_full(fd, &mut block[..n]);
     Block {
-        there: true,
-        start: start,
-        end: start + n,
+        there: read == n,
+        ended: false,
+        length: n,
     }
 }
 
@@ -152,9 +143,9 @@ fn say(s: &[u8]) {
     io::write_all(STDOUT_FILENO, s);
 }
 
-fn tell(at: usize) {
-    say(b"differs: the case at byte ");
-    io::print_decimal(STDOUT_FILENO, at as u64);
+fn tell(case: usize) {
+    say(b"differs: case ");
+    io::print_decimal(STDOUT_FILENO, case as u64);
     say(b"\n");
 }
 
@@ -165,73 +156,82 @@ fn report(cases: usize, differences: usize) {
     say(b" differences\n");
 }
 
-// The case at a place of the list: the place behind it, or the same place if the list is cut short there, and how many differences it has, 0 or 1.
+// Whether there was a case, and how many differences it has, 0 or 1. A list that is cut short differs there.
 struct Case {
-    end: usize,
+    there: bool,
     differences: usize,
 }
 
-fn replay_case(list: &[u8], at: usize, line: &mut [u8; 96], text: &mut [u8; 16384]) -> Case
-    requires { ⌜ at ≤ length (now list) ⌝ }
-    ensures { λ r. ⌜ r .end ≤ length (now (list .entry)) ⌝ }
+fn replay_case(
+    fd: i32,
+    case: usize,
+    input: &mut [u8],
+    output: &mut [u8],
+    line: &mut [u8; LINE_LENGTH],
+    text: &mut [u8; TEXT_LENGTH],
+) -> Case
     ensures { λ r. ⌜ r .differences ≤ 1 ⌝ }
 {
-    let input = block_at(list, at);
-    let a = input.start;
-    let b = input.end;
-    let output = block_at(list, b);
-    let c = output.start;
-    let d = output.end;
-    if !output.there {
-        tell(at);
+    let given = read_block(fd, input);
+    if given.ended {
         return Case {
-            end: at,
+            there: false,
+            differences: 0,
+        };
+    }
+    let expected = read_block(fd, output);
+    if !(given.there & expected.there) {
+        tell(case);
+        return Case {
+            there: false,
             differences: 1,
         };
     }
-    if !same_output(&list[a..b], &list[c..d], line, text) {
-        tell(at);
+    let n = given.length;
+    let m = expected.length;
+    if !same_output(&input[..n], &output[..m], line, text) {
+        tell(case);
         return Case {
-            end: d,
+            there: true,
             differences: 1,
         };
     }
     Case {
-        end: d,
+        there: true,
         differences: 0,
     }
 }
 
-fn replay(list: &[u8], line: &mut [u8; 96], text: &mut [u8; 16384]) {
-    let mut at = 0;
+fn replay(
+    fd: i32,
+    input: &mut [u8],
+    output: &mut [u8],
+    line: &mut [u8; LINE_LENGTH],
+    text: &mut [u8; TEXT_LENGTH],
+) {
     let mut cases = 0;
     let mut differences = 0;
-    while at < list.len() {
-        let case = replay_case(list, at, line, text);
+    while cases < MOST_CASES {
+        let case = replay_case(fd, cases, input, output, line, text);
         differences += case.differences;
-        if case.end <= at {
+        if !case.there {
             report(cases, differences);
             return;
         }
         cases += 1;
-        at = case.end;
     }
     report(cases, differences);
 }
 
-fn run(list: &mut [u8], line: &mut [u8; 96], text: &mut [u8; 16384]) {
+fn main() {
+    let mut input = [0u8; BLOCK_LENGTH];
+    let mut output = [0u8; BLOCK_LENGTH];
+    let mut line = [0u8; LINE_LENGTH];
+    let mut text = [0u8; TEXT_LENGTH];
     let fd = os::open_read(b"answers.bin");
     if fd < 0 {
         os::fail(b"answers.bin");
         return;
     }
-    let n = io::read_full(fd, list);
-    replay(&list[..n], line, text);
-}
-
-fn main() {
-    let mut list = [0u8; 409600];
-    let mut text = [0u8; 16384];
-    let mut line = [0u8; 96];
-    run(&mut list, &mut line, &mut text);
+    replay(fd, &mut input, &mut output, &mut line, &mut text);
 }

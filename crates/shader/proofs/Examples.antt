@@ -14,5 +14,15 @@ use Rattle.shader.specs.Output.{specularText, fogDepthText, fogFactorTex
 use Rattle.shader.specs.Whole.{varyingsText, srgbHelperText, fragmentText, frontText, stageInText, textureParameter, samplerParameter, samplersText, parametersText, spriteLine, spriteText, stageLine, stagesText, localsText, bodyText, wholeText}
 
 pub worked : tableHolds table ≡ true
-unfolding decimalOf texelName constantRow sourceText replicated argText opText expressionText active reads fallsBack bump alphaFromColour maskOf readsConstant namesFactor lastConstant anyFactor rowsOf keeps alphaWritten readsTemp readsTexel live lined marked lookupsOf readsBumpEnv expressionOf alphaOf decode lineText appliesColour appliesAlpha warns anyWarns stageWarnings lookupOf textureTypeOf textureName samplerName coordinateText lodRow bumpRow levelText quotientText uvText halfTexelText gatherText depthText compareText plainText texelLine projectedLine lookupText beforeOf dividedLine offsetText movedText displacedLine displacementText luminanceLine sampleText specularText fogDepthText fogFactorText fogText comparisonText testText srgbText returnText outputText varyingsText srgbHelperText fragmentText frontText stageInText textureParameter samplerParameter samplersText parametersText spriteLine spriteText stageLine stagesText localsText bodyText wholeText
+unfolding decimalOf
+    texelName constantRow sourceText replicated argText opText expressionText
+    active reads fallsBack bump alphaFromColour maskOf readsConstant namesFactor lastConstant anyFactor rowsOf
+    keeps alphaWritten readsTemp readsTexel live lined marked lookupsOf readsBumpEnv
+    expressionOf alphaOf decode lineText appliesColour appliesAlpha warns anyWarns stageWarnings
+    lookupOf textureTypeOf textureName samplerName coordinateText lodRow bumpRow levelText quotientText uvText halfTexelText gatherText
+    depthText compareText plainText texelLine projectedLine lookupText beforeOf dividedLine offsetText movedText displacedLine
+    displacementText luminanceLine sampleText
+    specularText fogDepthText fogFactorText fogText comparisonText testText srgbText returnText outputText
+    varyingsText srgbHelperText fragmentText frontText stageInText textureParameter samplerParameter samplersText parametersText
+    spriteLine spriteText stageLine stagesText localsText bodyText wholeText
 worked = refl

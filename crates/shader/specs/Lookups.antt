@@ -1,9 +1,8 @@
 -- Lookups: the texel of a stage read from its texture, at its own coordinate or at one that a bump stage displaces.
 use Prim.Native.Nat.{ℕ, _+_, _*_}
-use Prim.Native.String.{String}
 use mathlib.Core.Bool.{Bool, true, false, not, _&&_, _||_, cond}
-use mathlib.Core.List.{List, [], _∷_}
-use Rattle.text.specs.Text.{Text, lit, none, _⊕_, pick, when, digit, decimal}
+use mathlib.Core.List.{[], _∷_}
+use Rattle.text.specs.Text.{Text, lit, _⊕_, pick, when, digit, decimal}
 use Rattle.text.specs.Format.{format, _≔_}
 use Rattle.combiners.specs.Codes.{bit}
 use Rattle.combiners.specs.Arguments.{texelName}
@@ -163,4 +162,5 @@ luminanceLine tex i n =
 unfoldable pub sampleText : Before → Lookup → Bool → Bool → ℕ → Text
 sampleText Ordinary f lod projected i = lookupText f lod projected i Interpolated
 sampleText (Displacing n tex lum) f lod projected i =
-    pick tex (displacementText projected i n ⊕ lookupText f lod false i Displaced) (lookupText f lod projected i Interpolated) ⊕ when lum (luminanceLine tex i n)
+    pick tex (displacementText projected i n ⊕ lookupText f lod false i Displaced) (lookupText f lod projected i Interpolated)
+    ⊕ when lum (luminanceLine tex i n)

@@ -75,9 +75,9 @@ abbrev pub numberFrom : ℕ → List ℕ → Option ℕ
 numberFrom n [] = some n
 numberFrom n (c ∷ w) = cond (isDigit c) (numberFrom (10 * n + (c - 48)) w) none
 
-abbrev pub numberOf : Token → Option ℕ
-numberOf (mark c) = none
-numberOf (word w) = numberFrom 0 w
+abbrev pub numberIn : Token → Option ℕ
+numberIn (mark c) = none
+numberIn (word w) = numberFrom 0 w
 
 abbrev pub rowOf : Option ℕ → List Occurrence
 rowOf none = []
@@ -87,7 +87,7 @@ rowOf (some k) = row k ∷ []
 abbrev pub rowBehind : List Token → List Occurrence
 rowBehind behind =
     cond (sameToken (mark (code "[")) (getD behind 0 (mark 0)) && sameToken (mark (code "]")) (getD behind 2 (mark 0)))
-    (rowOf (numberOf (getD behind 1 (mark 0)))) []
+    (rowOf (numberIn (getD behind 1 (mark 0)))) []
 
 -- 01: "Every other occurrence is a use."
 abbrev pub occurrenceOf : List Token → List ℕ → List Token → Option Name → List Occurrence
@@ -105,6 +105,7 @@ occursIn before [] = []
 occursIn before (mark c ∷ behind) = occursIn (mark c ∷ before) behind
 occursIn before (word w ∷ behind) = foundAt before w behind ++ occursIn (word w ∷ before) behind
 
+-- the text t begins with s
 abbrev pub begins : List ℕ → List ℕ → Bool
 begins [] t = true
 begins (x ∷ s) [] = false

@@ -1,9 +1,9 @@
 -- Specular, fog, alpha test, sRGB and the return.
 -- 01: "Order: specular, fog, alpha test, sRGB, return."
 use Prim.Native.Nat.{ℕ}
-use mathlib.Core.Bool.{Bool, true, false, not, _&&_, _||_, cond}
-use mathlib.Core.List.{List, [], _∷_}
-use lib.Dec.{eqb, leb}
+use mathlib.Core.Bool.{Bool, not, _&&_, _||_}
+use mathlib.Core.List.{[], _∷_}
+use lib.Dec.{eqb}
 use Rattle.text.specs.Text.{Text, lit, _⊕_, pick, when, decimal}
 use Rattle.text.specs.Format.{format, _≔_}
 use Rattle.combiners.specs.Codes.{bit, always}

@@ -5,6 +5,7 @@ use mathlib.Core.List.{List, [], _++_}
 use lib.Dec.{leb, ltb}
 use lib.ListN.{length, take, drop}
 use Rattle.text.specs.Text.{flat}
+use Rattle.combiners.specs.Codes.{always}
 use Rattle.cascade.specs.Keys.{active, maskOf, rowsOf}
 use Rattle.cascade.specs.Reading.{live, lookupsOf}
 use Rattle.cascade.specs.Warnings.{stageWarnings}
@@ -25,8 +26,11 @@ abbrev pub textOf : Key → Variant → Entry → List ℕ
 textOf k v e = flat (wholeText k v e)
 
 -- 01: "8 for alpha function above 8, summed"
+abbrev pub alphaWarning : ℕ → ℕ
+alphaWarning f = cond (ltb always f) 8 0
+
 abbrev pub warningOf : Key → Variant → ℕ
-warningOf k v = stageWarnings (active (k .stages)) + cond (leb 9 (v .«alpha_func»)) 8 0
+warningOf k v = stageWarnings (active (k .stages)) + alphaWarning (v .«alpha_func»)
 
 abbrev pub emittedOf : Key → Variant → Entry → Emitted
 emittedOf k v e =
@@ -60,10 +64,14 @@ emissionNumber k v e room =
     (cond (not (entryGood e)) 6
     (cond (ltb room (length (textOf k v e))) 8 0)))
 
--- 01: "The text begins the lent buffer; bytes behind it stay." A refusal leaves all.
+-- 01: "The text begins the lent buffer; bytes behind it stay."
+abbrev pub inFront : List ℕ → List ℕ → List ℕ
+inFront text out = text ++ drop (length text) out
+
+-- A refusal leaves all.
 abbrev pub bufferAfter : Answer → List ℕ → List ℕ → List ℕ
 bufferAfter (Refused r) text out = out
-bufferAfter (Text m) text out = text ++ drop (length text) out
+bufferAfter (Text m) text out = inFront text out
 
 -- 01: "the written front of that buffer, an empty part for a length beyond it"
 abbrev pub frontOf : List ℕ → ℕ → List ℕ

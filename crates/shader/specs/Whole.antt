@@ -1,8 +1,7 @@
 -- The whole text: what stands before the function, its signature, its locals and stages, its output.
 use Prim.Native.Nat.{ℕ, suc}
-use mathlib.Core.Bool.{Bool, true, false, cond}
+use mathlib.Core.Bool.{Bool}
 use mathlib.Core.List.{List, [], _∷_}
-use lib.Dec.{eqb}
 use Rattle.text.specs.Text.{Text, raw, lit, none, _⊕_, pick, when, digit}
 use Rattle.text.specs.Format.{format, _≔_}
 use Rattle.combiners.specs.Codes.{bit}

@@ -1,21 +1,25 @@
 -- The worked stages of 01, Z1 to Z9: for each a key, a variant and what 01 names of the text and the result.
 -- 01: "Unless said otherwise: stage 0, no texture, result CURRENT, alpha op 1, unnamed arguments 0, every other stage op 1."
 use Prim.Native.Nat.{ℕ, zero, suc}
+use Prim.Native.Char.{code}
 use Prim.Native.String.{String}
 use mathlib.Core.Bool.{Bool, true, false, not, _&&_, _||_}
-use mathlib.Core.List.{List, [], _∷_}
+use mathlib.Core.List.{List, [], _∷_, _++_}
 use lib.Dec.{eqb}
+use lib.ListN.{replicate}
 use Rattle.text.specs.Text.{bytes}
 use Rattle.text.specs.Format.{same}
 use Rattle.values.specs.declared.Stage.{Stage}
 use Rattle.values.specs.declared.Key.{Key}
-use Rattle.shader.specs.Results.{textOf, emittedOf}
 use Rattle.values.specs.declared.Variant.{Variant}
 use Rattle.values.specs.declared.Entry.{Entry}
+use Rattle.shader.specs.Names.{begins}
+use Rattle.shader.specs.Results.{textOf, emittedOf}
 
--- what is named: the whole text, a part of it, a part that it lacks, or a number of the result
+-- what is named: the whole text by its lines, a part of it, a part that it lacks, or a number of the result
 pub data Named : Type 0 where
-  whole part lacks : String → Named
+  whole : List String → Named
+  part lacks : String → Named
   mask rows lookups warning : ℕ → Named
 
 pub record Worked : Type 0 where
@@ -28,78 +32,94 @@ pub record Worked : Type 0 where
 abbrev pub stage : ℕ → ℕ → ℕ → ℕ → Stage
 stage op a b flags = record { colour = record { op = op; arg1 = a; arg2 = b }; alpha = record { op = 1; arg1 = 0; arg2 = 0 }; flags = flags }
 
-abbrev pub off : Stage
-off = stage 1 0 0 0
+-- a stage whose bytes are 0 but for its colour op
+abbrev pub bare : ℕ → Stage
+bare op = record { colour = record { op = op; arg1 = 0; arg2 = 0 }; alpha = record { op = 0; arg1 = 0; arg2 = 0 }; flags = 0 }
 
-abbrev pub blank : Stage
-blank = record { colour = record { op = 0; arg1 = 0; arg2 = 0 }; alpha = record { op = 0; arg1 = 0; arg2 = 0 }; flags = 0 }
+-- n stages, the first of them as given and the others alike
+abbrev pub padded : ℕ → Stage → List Stage → List Stage
+padded zero s ss = []
+padded (suc n) s [] = s ∷ padded n s []
+padded (suc n) s (t ∷ ss) = t ∷ padded n s ss
 
--- the stages of a key, up to eight, filled up with others
-abbrev pub fill : ℕ → Stage → List Stage → List Stage
-fill zero s ss = []
-fill (suc n) s [] = s ∷ fill n s []
-fill (suc n) s (t ∷ ss) = t ∷ fill n s ss
+-- a line of the table, by the stages in front of those with op 1 and by the alpha function
+abbrev pub line : String → List Stage → ℕ → List Named → Worked
+line name ss f named = record { name = name; stages = padded 8 (stage 1 0 0 0) ss; alphaFunc = f; named = named }
 
-abbrev pub z1Text : String
-z1Text = "#include <metal_stdlib>\nusing namespace metal;\n\nstruct Varyings {\n    float4 position [[position, invariant]];\n    float4 position1;\n    float4 texcoord0;\n    float4 texcoord1;\n    float4 texcoord2;\n    float4 texcoord3;\n    float4 texcoord4;\n    float4 texcoord5;\n    float4 texcoord6;\n    float4 texcoord7;\n    float4 texcoord8;\n    float4 texcoord9;\n    float4 texcoord10;\n    float4 texcoord11;\n    float4 texcoord12;\n    float4 texcoord13;\n    float4 texcoord14;\n    float4 texcoord15;\n    float4 color0;\n    float4 color1;\n    float4 fog;\n    float fog_z [[center_no_perspective]];\n    float point_size [[point_size]];\n};\n\nfragment float4 m(\n    Varyings in [[stage_in]],\n    constant float4 *ps_c [[buffer(15)]]\n) {\n    float4 current = in.color0;\n    float4 oC0 = current;\n    return oC0;\n}\n"
+abbrev pub z1Lines : List String
+z1Lines =
+    "#include <metal_stdlib>"
+    ∷ "using namespace metal;"
+    ∷ ""
+    ∷ "struct Varyings {"
+    ∷ "    float4 position [[position, invariant]];"
+    ∷ "    float4 position1;"
+    ∷ "    float4 texcoord0;"
+    ∷ "    float4 texcoord1;"
+    ∷ "    float4 texcoord2;"
+    ∷ "    float4 texcoord3;"
+    ∷ "    float4 texcoord4;"
+    ∷ "    float4 texcoord5;"
+    ∷ "    float4 texcoord6;"
+    ∷ "    float4 texcoord7;"
+    ∷ "    float4 texcoord8;"
+    ∷ "    float4 texcoord9;"
+    ∷ "    float4 texcoord10;"
+    ∷ "    float4 texcoord11;"
+    ∷ "    float4 texcoord12;"
+    ∷ "    float4 texcoord13;"
+    ∷ "    float4 texcoord14;"
+    ∷ "    float4 texcoord15;"
+    ∷ "    float4 color0;"
+    ∷ "    float4 color1;"
+    ∷ "    float4 fog;"
+    ∷ "    float fog_z [[center_no_perspective]];"
+    ∷ "    float point_size [[point_size]];"
+    ∷ "};"
+    ∷ ""
+    ∷ "fragment float4 m("
+    ∷ "    Varyings in [[stage_in]],"
+    ∷ "    constant float4 *ps_c [[buffer(15)]]"
+    ∷ ") {"
+    ∷ "    float4 current = in.color0;"
+    ∷ "    float4 oC0 = current;"
+    ∷ "    return oC0;"
+    ∷ "}"
+    ∷ []
+
+-- 01: "a key with stage 0 op 1 and all else 0"
+abbrev pub z1 : Worked
+z1 =
+    record {
+      name = "Z1";
+      stages = padded 8 (bare 0) (bare 1 ∷ []);
+      alphaFunc = 0;
+      named = whole z1Lines ∷ mask 0 ∷ rows 0 ∷ lookups 0 ∷ warning 0 ∷ [];
+    }
 
 abbrev pub table : List Worked
 table =
-    record {
-      name = "Z1";
-      stages = fill 8 blank (record { colour = record { op = 1; arg1 = 0; arg2 = 0 }; alpha = record { op = 0; arg1 = 0; arg2 = 0 }; flags = 0 } ∷ []);
-      alphaFunc = 0;
-      named = whole z1Text ∷ mask 0 ∷ rows 0 ∷ lookups 0 ∷ warning 0 ∷ [];
-    }
-    ∷ record {
-      name = "Z2";
-      stages = fill 8 off (stage 4 2 0 1 ∷ []);
-      alphaFunc = 0;
-      named = part "    current = float4(((t0 * in.color0)).rgb, (current).a);\n" ∷ lookups 1 ∷ [];
-    }
-    ∷ record {
-      name = "Z3, op 2";
-      stages = fill 8 off (stage 2 0 2 0 ∷ []);
-      alphaFunc = 0;
-      named = part "    current = float4((in.color0).rgb, (current).a);\n" ∷ [];
-    }
-    ∷ record {
-      name = "Z3, op 4";
-      stages = fill 8 off (stage 4 0 2 0 ∷ []);
-      alphaFunc = 0;
-      named = part "    current = float4((current).rgb, (current).a);\n" ∷ [];
-    }
-    ∷ record {
-      name = "Z4";
-      stages = fill 8 off (stage 2 0 0 0 ∷ stage 2 0 0 0 ∷ stage 2 0x36 0 0 ∷ []);
-      alphaFunc = 0;
-      named = part "    current = float4(((1.0 - ps_c[3].aaaa)).rgb, (current).a);\n" ∷ rows 4 ∷ [];
-    }
-    ∷ record { name = "Z5, op 17"; stages = fill 8 off (stage 17 0 5 0 ∷ []); alphaFunc = 0; named = lacks "temp" ∷ [] }
-    ∷ record { name = "Z5, op 4"; stages = fill 8 off (stage 4 0 5 0 ∷ []); alphaFunc = 0; named = part "    float4 temp = float4(0.0);\n" ∷ [] }
-    ∷ record { name = "Z6, argument 2"; stages = fill 8 off (stage 22 0 0 1 ∷ stage 2 2 0 1 ∷ []); alphaFunc = 0; named = lookups 2 ∷ [] }
-    ∷ record { name = "Z6, argument 0"; stages = fill 8 off (stage 22 0 0 1 ∷ stage 2 0 0 1 ∷ []); alphaFunc = 0; named = lookups 0 ∷ mask 3 ∷ [] }
-    ∷ record {
-      name = "Z7";
-      stages = fill 8 off (stage 23 0 1 0 ∷ stage 2 2 0 1 ∷ []);
-      alphaFunc = 0;
-      named = part "    t1 *= saturate(bump_env[1].y);\n" ∷ [];
-    }
-    ∷ record { name = "Z8, function 8"; stages = fill 8 off []; alphaFunc = 8; named = lacks "discard_fragment" ∷ [] }
-    ∷ record { name = "Z8, function 9"; stages = fill 8 off []; alphaFunc = 9; named = part "    if (!(true)) discard_fragment();\n" ∷ [] }
-    ∷ record {
-      name = "Z9";
-      stages = fill 8 off (stage 13 0 4 0 ∷ []);
-      alphaFunc = 0;
-      named = part "    current = float4((in.color1).rgb, (current).a);\n" ∷ [];
-    }
+    z1
+    ∷ line "Z2" (stage 4 2 0 1 ∷ []) 0 (part "    current = float4(((t0 * in.color0)).rgb, (current).a);\n" ∷ lookups 1 ∷ [])
+    ∷ line "Z3, op 2" (stage 2 0 2 0 ∷ []) 0 (part "    current = float4((in.color0).rgb, (current).a);\n" ∷ [])
+    ∷ line "Z3, op 4" (stage 4 0 2 0 ∷ []) 0 (part "    current = float4((current).rgb, (current).a);\n" ∷ [])
+    ∷ line "Z4" (stage 2 0 0 0 ∷ stage 2 0 0 0 ∷ stage 2 0x36 0 0 ∷ []) 0
+    (part "    current = float4(((1.0 - ps_c[3].aaaa)).rgb, (current).a);\n" ∷ rows 4 ∷ [])
+    ∷ line "Z5, op 17" (stage 17 0 5 0 ∷ []) 0 (lacks "temp" ∷ [])
+    ∷ line "Z5, op 4" (stage 4 0 5 0 ∷ []) 0 (part "    float4 temp = float4(0.0);\n" ∷ [])
+    ∷ line "Z6, argument 2" (stage 22 0 0 1 ∷ stage 2 2 0 1 ∷ []) 0 (lookups 2 ∷ [])
+    ∷ line "Z6, argument 0" (stage 22 0 0 1 ∷ stage 2 0 0 1 ∷ []) 0 (lookups 0 ∷ mask 3 ∷ [])
+    ∷ line "Z7" (stage 23 0 1 0 ∷ stage 2 2 0 1 ∷ []) 0 (part "    t1 *= saturate(bump_env[1].y);\n" ∷ [])
+    ∷ line "Z8, function 8" [] 8 (lacks "discard_fragment" ∷ [])
+    ∷ line "Z8, function 9" [] 9 (part "    if (!(true)) discard_fragment();\n" ∷ [])
+    ∷ line "Z9" (stage 13 0 4 0 ∷ []) 0 (part "    current = float4((in.color1).rgb, (current).a);\n" ∷ [])
     ∷ []
 
-abbrev pub keyOf : Worked → Key
-keyOf w = record { stages = w .stages; «specular_add» = false; projected = 0 }
+abbrev pub workedKey : Worked → Key
+workedKey w = record { stages = w .stages; «specular_add» = false; projected = 0 }
 
-abbrev pub variantOf : Worked → Variant
-variantOf w =
+abbrev pub workedVariant : Worked → Variant
+workedVariant w =
     record {
       «alpha_func» = w .alphaFunc;
       «fog_mode» = 0;
@@ -116,31 +136,27 @@ variantOf w =
     }
 
 -- the entry `m`
-abbrev pub zeros : ℕ → List ℕ
-zeros zero = []
-zeros (suc n) = 0 ∷ zeros n
-
 abbrev pub entryM : Entry
-entryM = record { len = 1; name = 109 ∷ zeros 31 }
+entryM = record { len = 1; name = bytes "m" ++ replicate 31 0 }
 
--- the text begins with a part; it has the part somewhere
-abbrev pub begins : List ℕ → List ℕ → Bool
-begins [] t = true
-begins (x ∷ p) [] = false
-begins (x ∷ p) (y ∷ t) = eqb x y && begins p t
+-- the bytes of lines, each with its newline
+abbrev pub linesOf : List String → List ℕ
+linesOf [] = []
+linesOf (s ∷ r) = bytes s ++ (code "\n" ∷ linesOf r)
 
+-- the text has the part somewhere
 abbrev pub contains : List ℕ → List ℕ → Bool
 contains p [] = begins p []
 contains p (y ∷ t) = begins p (y ∷ t) || contains p t
 
 abbrev pub holds : Worked → Named → Bool
-holds w (whole s) = same (bytes s) (textOf (keyOf w) (variantOf w) entryM)
-holds w (part s) = contains (bytes s) (textOf (keyOf w) (variantOf w) entryM)
-holds w (lacks s) = not (contains (bytes s) (textOf (keyOf w) (variantOf w) entryM))
-holds w (mask n) = eqb (emittedOf (keyOf w) (variantOf w) entryM .mask) n
-holds w (rows n) = eqb (emittedOf (keyOf w) (variantOf w) entryM .rows) n
-holds w (lookups n) = eqb (emittedOf (keyOf w) (variantOf w) entryM .lookups) n
-holds w (warning n) = eqb (emittedOf (keyOf w) (variantOf w) entryM .warning) n
+holds w (whole ls) = same (linesOf ls) (textOf (workedKey w) (workedVariant w) entryM)
+holds w (part s) = contains (bytes s) (textOf (workedKey w) (workedVariant w) entryM)
+holds w (lacks s) = not (contains (bytes s) (textOf (workedKey w) (workedVariant w) entryM))
+holds w (mask n) = eqb (emittedOf (workedKey w) (workedVariant w) entryM .mask) n
+holds w (rows n) = eqb (emittedOf (workedKey w) (workedVariant w) entryM .rows) n
+holds w (lookups n) = eqb (emittedOf (workedKey w) (workedVariant w) entryM .lookups) n
+holds w (warning n) = eqb (emittedOf (workedKey w) (workedVariant w) entryM .warning) n
 
 abbrev pub allHold : Worked → List Named → Bool
 allHold w [] = true

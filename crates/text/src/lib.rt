@@ -67,7 +67,7 @@ pub fn put_numbered(out: &mut [u8], at: usize, s: &[u8], n: u8) -> usize
     put_filled(out, at, s, b'0' + n)
 }
 
-// One of two.
+// The first of two literals, or the second.
 pub fn put_either(out: &mut [u8], at: usize, first: bool, s: &[u8], t: &[u8]) -> usize
     ensures { λ r. ⌜ Placed (now (out .entry)) at (now (out .exit)) r (pick first (raw (now (s .entry))) (raw (now (t .entry)))) ⌝ }
 {
@@ -78,7 +78,7 @@ pub fn put_either(out: &mut [u8], at: usize, first: bool, s: &[u8], t: &[u8]) ->
     }
 }
 
-// Nothing, if the test fails.
+// A literal, or nothing where the test fails.
 pub fn put_when(out: &mut [u8], at: usize, there: bool, s: &[u8]) -> usize
     ensures { λ r. ⌜ Placed (now (out .entry)) at (now (out .exit)) r (when there (raw (now (s .entry)))) ⌝ }
 {

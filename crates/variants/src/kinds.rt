@@ -3,13 +3,11 @@ use crate::bits::bit;
 use shader::Lookup;
 use shader::TextureType;
 use values::Variant;
-ghost use Prim.Native.Nat.{_<_};
 ghost use mathlib.Core.Path.{_≡_};
 ghost use Rattle.shader.specs.Lookups.{lookupOf, textureTypeOf};
 
 // The first that applies: fetch4, depth fetch, depth compare, plain.
 pub fn lookup_of(v: Variant, i: u8) -> Lookup
-    requires { ⌜ i < 8 ⌝ }
     ensures { λ r. ⌜ r ≡ lookupOf v i ⌝ }
 {
     let depth = bit(v.depth_sampler, i);
@@ -30,7 +28,6 @@ pub fn lookup_of(v: Variant, i: u8) -> Lookup
 
 // The first that applies: depth, volume, cube, flat.
 pub fn texture_type_of(v: Variant, i: u8) -> TextureType
-    requires { ⌜ i < 8 ⌝ }
     ensures { λ r. ⌜ r ≡ textureTypeOf v i ⌝ }
 {
     if bit(v.depth_sampler, i) {

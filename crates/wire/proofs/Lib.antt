@@ -1,2 +1,5 @@
+pub mod Bodies
 pub mod Laws
+pub mod Found
+pub mod Written
 pub mod RoundTrips

@@ -1,10 +1,9 @@
 -- The bytes of a record, and the values that the bytes of a body stand for. What stands behind a body is not looked at.
 use Prim.Native.Nat.{ℕ, zero, suc, _+_, _*_, _/_, _%_}
-use mathlib.Core.Path.{_≡_}
 use mathlib.Core.Bool.{cond}
 use mathlib.Core.List.{List, [], _∷_, _++_}
 use lib.Dec.{eqb}
-use lib.ListN.{length, take, drop, getD}
+use lib.ListN.{take, drop, getD}
 use Rattle.values.specs.declared.Stage.{Stage}
 use Rattle.values.specs.declared.Key.{Key}
 use Rattle.values.specs.declared.Variant.{Variant}
@@ -36,8 +35,8 @@ abbrev pub stageBytes : Stage → List ℕ
 stageBytes s =
     s .colour .op ∷ s .colour .arg1 ∷ s .colour .arg2 ∷ s .alpha .op ∷ s .alpha .arg1 ∷ s .alpha .arg2 ∷ s .flags ∷ []
 
-abbrev pub stageOf : List ℕ → Stage
-stageOf b =
+abbrev pub stageFromBytes : List ℕ → Stage
+stageFromBytes b =
     record {
       colour = record { op = getD b 0 0; arg1 = getD b 1 0; arg2 = getD b 2 0 };
       alpha = record { op = getD b 3 0; arg1 = getD b 4 0; arg2 = getD b 5 0 };
@@ -50,16 +49,20 @@ stagesBytes [] = []
 stagesBytes (s ∷ r) = stageBytes s ++ stagesBytes r
 
 -- the first n stages
-unfoldable pub stagesOf : ℕ → List ℕ → List Stage
-stagesOf zero b = []
-stagesOf (suc n) b = stageOf b ∷ stagesOf n (drop 7 b)
+unfoldable pub stagesFromBytes : ℕ → List ℕ → List Stage
+stagesFromBytes zero b = []
+stagesFromBytes (suc n) b = stageFromBytes b ∷ stagesFromBytes n (drop 7 b)
 
 -- 01: "stages, specular 0 or 1, projected mask"
 unfoldable pub keyBytes : Key → List ℕ
 keyBytes k = stagesBytes (k .stages) ++ (cond (k .«specular_add») 1 0 ∷ k .projected ∷ [])
 
-unfoldable pub keyOf : List ℕ → Key
-keyOf b = record { stages = stagesOf 8 b; «specular_add» = eqb (getD b 56 0) 1; projected = getD b 57 0 }
+-- the byte behind the stages
+abbrev pub specularByte : List ℕ → ℕ
+specularByte b = getD b 56 0
+
+unfoldable pub keyFromBody : List ℕ → Key
+keyFromBody b = record { stages = stagesFromBytes 8 b; «specular_add» = eqb (specularByte b) 1; projected = getD b 57 0 }
 
 -- 01: "16-bit masks, low byte first"
 abbrev pub maskBytes : ℕ → List ℕ
@@ -84,8 +87,8 @@ masksBytes v =
 unfoldable pub variantBytes : Variant → List ℕ
 variantBytes v = v .«alpha_func» ∷ v .«fog_mode» ∷ v .«fog_table_mode» ∷ (masksBytes v ++ (v .«sample_mask» ∷ v .flags ∷ []))
 
-unfoldable pub variantOf : List ℕ → Variant
-variantOf b =
+unfoldable pub variantFromBody : List ℕ → Variant
+variantFromBody b =
     record {
       «alpha_func» = getD b 0 0;
       «fog_mode» = getD b 1 0;
@@ -105,8 +108,8 @@ variantOf b =
 abbrev pub entryBytes : Entry → List ℕ
 entryBytes e = e .len ∷ e .name
 
-unfoldable pub entryOf : List ℕ → Entry
-entryOf b = record { len = getD b 0 0; name = take 32 (drop 1 b) }
+unfoldable pub entryFromBody : List ℕ → Entry
+entryFromBody b = record { len = getD b 0 0; name = take 32 (drop 1 b) }
 
 unfoldable pub bodyBytes : Kind → Record → List ℕ
 bodyBytes kind.Key r = keyBytes (r .key)
@@ -117,8 +120,3 @@ bodyBytes kind.Emit r = []
 -- 01: "A kind byte, then a body"
 abbrev pub recordBytes : Record → List ℕ
 recordBytes r = kindByte (r .kind) ∷ bodyBytes (r .kind) r
-
--- what the types say of a record: a key has eight stages, and an entry 32 bytes
-pub record Shaped (r : Record) : Type 0 where
-  pub stages : length (r .key .stages) ≡ 8
-  pub name : length (r .entry .name) ≡ 32

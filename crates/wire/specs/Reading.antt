@@ -4,22 +4,33 @@ use Prim.Native.Nat.{ℕ}
 use mathlib.Core.Bool.{cond}
 use mathlib.Core.List.{List, [], _∷_}
 use lib.Dec.{eqb, ltb}
-use lib.ListN.{length, getD}
+use lib.ListN.{length}
+use Rattle.values.specs.Refusals.{numberOf}
 use Rattle.values.specs.Flags.{stageFlagsBad, variantFlagsBad}
 use Rattle.values.specs.Entries.{entryGood}
-use Rattle.wire.specs.Bodies.{bodyLength, recordLength, keyOf, variantOf, entryOf}
-use Rattle.wire.specs.Values.{blank, keyRecord, variantRecord, entryRecord}
+use Rattle.values.specs.declared.Refusal.{Refusal}
+use Rattle.values.specs.declared.Refusal.the-variants.{CutShort, UnknownKind, StageFlags, SpecularAdd, VariantFlags, EntryName}
+use Rattle.wire.specs.Bodies.{kindByte, bodyLength, recordLength, specularByte, keyFromBody, variantFromBody, entryFromBody}
+use Rattle.wire.specs.Values.{keyRecord, variantRecord, entryRecord, emitRecord}
 use Rattle.wire.specs.declared.Kind.{Kind}
 use Rattle.wire.specs.declared.Kind.the-variants as kind
 use Rattle.wire.specs.declared.Record.{Record}
-use Rattle.values.specs.declared.Refusal.{Refusal}
-use Rattle.values.specs.declared.Refusal.the-variants.{CutShort, UnknownKind, StageFlags, SpecularAdd, VariantFlags, EntryName}
+use Rattle.wire.specs.declared.ReadAnswer.{ReadAnswer}
 use Rattle.wire.specs.declared.ReadAnswer.the-variants.{Took, Refused}
 use Rattle.wire.specs.declared.Reading.{Reading}
 
+-- what is answered for the kind that a kind byte names, and what for a byte that names none
+abbrev pub byKind : {A : Type 0} → ℕ → (Kind → A) → A → A
+byKind n known unknown =
+    cond (eqb n (kindByte kind.Key)) (known kind.Key)
+    (cond (eqb n (kindByte kind.Variant)) (known kind.Variant)
+    (cond (eqb n (kindByte kind.Entry)) (known kind.Entry) (cond (eqb n (kindByte kind.Emit)) (known kind.Emit) unknown)))
+
+-- What is found.
+
 -- a refusal, with a blank record
 abbrev pub refused : Refusal → Reading
-refused c = record { answer = Refused c; found = blank kind.Emit }
+refused c = record { answer = Refused c; found = emitRecord }
 
 -- a record, with how many bytes it took
 abbrev pub took : Record → Reading
@@ -28,22 +39,35 @@ took r = record { answer = Took (recordLength (r .kind)); found = r }
 -- 3, "a stage flag bit 2 to 7", before 4, "specular above 1"; 5, "variant flag bit 6 or 7"; 6, what is wrong with an entry
 unfoldable pub readBody : Kind → List ℕ → Reading
 readBody kind.Key b =
-    cond (stageFlagsBad (keyOf b .stages)) (refused StageFlags) (cond (ltb 1 (getD b 56 0)) (refused SpecularAdd) (took (keyRecord (keyOf b))))
-readBody kind.Variant b = cond (variantFlagsBad (variantOf b)) (refused VariantFlags) (took (variantRecord (variantOf b)))
-readBody kind.Entry b = cond (entryGood (entryOf b)) (took (entryRecord (entryOf b))) (refused EntryName)
-readBody kind.Emit b = took (blank kind.Emit)
+    cond (stageFlagsBad (keyFromBody b .stages)) (refused StageFlags)
+    (cond (ltb 1 (specularByte b)) (refused SpecularAdd) (took (keyRecord (keyFromBody b))))
+readBody kind.Variant b = cond (variantFlagsBad (variantFromBody b)) (refused VariantFlags) (took (variantRecord (variantFromBody b)))
+readBody kind.Entry b = cond (entryGood (entryFromBody b)) (took (entryRecord (entryFromBody b))) (refused EntryName)
+readBody kind.Emit b = took emitRecord
 
 -- 1: "body cut short"
 unfoldable pub readAs : Kind → List ℕ → Reading
 readAs k b = cond (ltb (length b) (bodyLength k)) (refused CutShort) (readBody k b)
 
--- 2: "kind not 1 to 4"
-unfoldable pub readNamed : ℕ → List ℕ → Reading
-readNamed n b =
-    cond (eqb n 1) (readAs kind.Key b)
-    (cond (eqb n 2) (readAs kind.Variant b) (cond (eqb n 3) (readAs kind.Entry b) (cond (eqb n 4) (readAs kind.Emit b) (refused UnknownKind))))
-
--- 01: "Kind comes before length, length before the body's causes, 3 before 4." 1: "no byte".
+-- 1: "no byte"; 2: "kind not 1 to 4". 01: "Kind comes before length, length before the body's causes, 3 before 4."
 unfoldable pub readRecord : List ℕ → Reading
 readRecord [] = refused CutShort
-readRecord (n ∷ b) = readNamed n b
+readRecord (n ∷ b) = byKind n (λ k. readAs k b) (refused UnknownKind)
+
+-- The numbers of 01's table.
+
+-- of an answer: 0 for a record that was taken
+abbrev pub readNumber : ReadAnswer → ℕ
+readNumber (Took n) = 0
+readNumber (Refused c) = numberOf c
+
+-- of some bytes: 0 for a record at their front
+unfoldable pub bodyNumber : Kind → List ℕ → ℕ
+bodyNumber kind.Key b = cond (stageFlagsBad (keyFromBody b .stages)) 3 (cond (ltb 1 (specularByte b)) 4 0)
+bodyNumber kind.Variant b = cond (variantFlagsBad (variantFromBody b)) 5 0
+bodyNumber kind.Entry b = cond (entryGood (entryFromBody b)) 0 6
+bodyNumber kind.Emit b = 0
+
+unfoldable pub recordNumber : List ℕ → ℕ
+recordNumber [] = 1
+recordNumber (n ∷ b) = byKind n (λ k. cond (ltb (length b) (bodyLength k)) 1 (bodyNumber k b)) 2

@@ -1,33 +1,54 @@
 -- Records made from values: the value of the record's kind, and the others blank.
-use mathlib.Core.List.{[]}
+use mathlib.Core.Bool.{false}
 use lib.ListN.{replicate}
+use Rattle.values.specs.declared.Stage.{Stage}
 use Rattle.values.specs.declared.Key.{Key}
 use Rattle.values.specs.declared.Variant.{Variant}
 use Rattle.values.specs.declared.Entry.{Entry}
-use Rattle.wire.specs.Bodies.{keyOf, variantOf}
 use Rattle.wire.specs.declared.Kind.{Kind}
 use Rattle.wire.specs.declared.Kind.the-variants as kind
 use Rattle.wire.specs.declared.Record.{Record}
 
--- The record of a kind with all values blank: every byte 0, specular add no.
-unfoldable pub blank : Kind → Record
-blank k = record { kind = k; key = keyOf []; variant = variantOf []; entry = record { len = 0; name = replicate 32 0 } }
+-- Blank values: every byte 0, specular add no.
+abbrev pub blankStage : Stage
+blankStage =
+    record { colour = record { op = 0; arg1 = 0; arg2 = 0 }; alpha = record { op = 0; arg1 = 0; arg2 = 0 }; flags = 0 }
 
-unfoldable pub keyRecord : Key → Record
-keyRecord k = record { kind = kind.Key; key = k; variant = blank kind.Key .variant; entry = blank kind.Key .entry }
+unfoldable pub blankKey : Key
+blankKey = record { stages = replicate 8 blankStage; «specular_add» = false; projected = 0 }
 
-unfoldable pub variantRecord : Variant → Record
-variantRecord v = record { kind = kind.Variant; key = blank kind.Variant .key; variant = v; entry = blank kind.Variant .entry }
+unfoldable pub blankVariant : Variant
+blankVariant =
+    record {
+      «alpha_func» = 0;
+      «fog_mode» = 0;
+      «fog_table_mode» = 0;
+      «depth_sampler» = 0;
+      «depth_fetch» = 0;
+      fetch4 = 0;
+      «fetch4_alpha» = 0;
+      «raw_depth_red» = 0;
+      volume = 0;
+      cube = 0;
+      «sample_mask» = 0;
+      flags = 0;
+    }
 
-unfoldable pub entryRecord : Entry → Record
-entryRecord e = record { kind = kind.Entry; key = blank kind.Entry .key; variant = blank kind.Entry .variant; entry = e }
+unfoldable pub blankEntry : Entry
+blankEntry = record { len = 0; name = replicate 32 0 }
 
--- a record with the value of its kind alone
-unfoldable pub ownAs : Kind → Record → Record
-ownAs kind.Key r = keyRecord (r .key)
-ownAs kind.Variant r = variantRecord (r .variant)
-ownAs kind.Entry r = entryRecord (r .entry)
-ownAs kind.Emit r = blank kind.Emit
+abbrev pub blankRecord : Kind → Record
+blankRecord k = record { kind = k; key = blankKey; variant = blankVariant; entry = blankEntry }
 
-abbrev pub own : Record → Record
-own r = ownAs (r .kind) r
+-- The records of a key, a variant and an entry, and the record that asks for a text.
+abbrev pub keyRecord : Key → Record
+keyRecord k = record { kind = kind.Key; key = k; variant = blankVariant; entry = blankEntry }
+
+abbrev pub variantRecord : Variant → Record
+variantRecord v = record { kind = kind.Variant; key = blankKey; variant = v; entry = blankEntry }
+
+abbrev pub entryRecord : Entry → Record
+entryRecord e = record { kind = kind.Entry; key = blankKey; variant = blankVariant; entry = e }
+
+abbrev pub emitRecord : Record
+emitRecord = blankRecord kind.Emit

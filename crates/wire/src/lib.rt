@@ -11,7 +11,7 @@ pub mod writer;
 
 use values::Refusal;
 ghost use mathlib.Core.Path.{_≡_};
-ghost use Rattle.wire.specs.Bodies.{bodyLength, recordLength};
+ghost use Rattle.wire.specs.Bodies.{bodyLength, kindByte, recordLength};
 
 pub enum Kind {
     Key,
@@ -26,12 +26,6 @@ pub struct Record {
     pub key: Key,
     pub variant: Variant,
     pub entry: Entry,
-}
-
-// Whether a record's own value may be written.
-pub enum Checked {
-    Good,
-    Bad(Refusal),
 }
 
 pub enum ReadAnswer {
@@ -52,15 +46,44 @@ pub enum WriteAnswer {
     Refused(Refusal),
 }
 
+// The byte that a record of each kind begins with.
+pub const KIND_KEY: u8 = 1;
+
+pub const KIND_VARIANT: u8 = 2;
+
+pub const KIND_ENTRY: u8 = 3;
+
+pub const KIND_EMIT: u8 = 4;
+
+// How many bytes follow the kind byte.
+const KEY_BODY: usize = 58;
+
+const VARIANT_BODY: usize = 19;
+
+const ENTRY_BODY: usize = 33;
+
+const EMIT_BODY: usize = 0;
+
+pub fn kind_byte(kind: Kind) -> u8
+    ensures { λ r. ⌜ r ≡ kindByte kind ⌝ }
+{
+    match kind {
+        Kind::Key => KIND_KEY,
+        Kind::Variant => KIND_VARIANT,
+        Kind::Entry => KIND_ENTRY,
+        Kind::Emit => KIND_EMIT,
+    }
+}
+
 // The length of a kind's body.
 pub fn body_length(kind: Kind) -> usize
     ensures { λ r. ⌜ r ≡ bodyLength kind ⌝ }
 {
     match kind {
-        Kind::Key => 58,
-        Kind::Variant => 19,
-        Kind::Entry => 33,
-        Kind::Emit => 0,
+        Kind::Key => KEY_BODY,
+        Kind::Variant => VARIANT_BODY,
+        Kind::Entry => ENTRY_BODY,
+        Kind::Emit => EMIT_BODY,
     }
 }
 

@@ -7,12 +7,10 @@ use values::Key;
 use values::Stage;
 use values::Variant;
 ghost use mathlib.Core.Path.{_≡_};
-ghost use mathlib.Core.List.{[]};
-ghost use Rattle.wire.specs.Bodies.{stageOf};
-ghost use Rattle.wire.specs.Values.{blank, entryRecord, keyRecord, variantRecord};
+ghost use Rattle.wire.specs.Values.{blankRecord, blankStage, emitRecord, entryRecord, keyRecord, variantRecord};
 
-pub fn blank_stage() -> Stage
-    ensures { λ r. ⌜ r ≡ stageOf [] ⌝ }
+pub(crate) fn blank_stage() -> Stage
+    ensures { λ r. ⌜ r ≡ blankStage ⌝ }
 {
     let c = Combiner {
         op: 0,
@@ -28,7 +26,7 @@ pub fn blank_stage() -> Stage
 
 // A record of a kind with no value in it.
 pub fn blank_record(kind: Kind) -> Record
-    ensures { λ r. ⌜ r ≡ blank kind ⌝ }
+    ensures { λ r. ⌜ r ≡ blankRecord kind ⌝ }
 {
     let s = blank_stage();
     let stages = [s; 8];
@@ -85,4 +83,10 @@ pub fn entry_record(entry: Entry) -> Record
     let mut made = blank_record(Kind::Entry);
     made.entry = entry;
     made
+}
+
+pub fn emit_record() -> Record
+    ensures { λ r. ⌜ r ≡ emitRecord ⌝ }
+{
+    blank_record(Kind::Emit)
 }

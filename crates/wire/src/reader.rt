@@ -1,11 +1,15 @@
 //! The reader: the record at the front of some bytes, or why there is none.
+use crate::KIND_EMIT;
+use crate::KIND_ENTRY;
+use crate::KIND_KEY;
+use crate::KIND_VARIANT;
 use crate::Kind;
 use crate::ReadAnswer;
 use crate::Reading;
 use crate::Record;
 use crate::body_length;
-use crate::make::blank_record;
 use crate::make::blank_stage;
+use crate::make::emit_record;
 use crate::make::entry_record;
 use crate::make::key_record;
 use crate::make::variant_record;
@@ -22,13 +26,22 @@ use values::Variant;
 ghost use Prim.Native.Nat.{_+_, _≤_, _<_};
 ghost use mathlib.Core.Path.{_≡_};
 ghost use lib.ListN.{drop, length};
-ghost use Rattle.wire.specs.Bodies.{entryOf, keyOf, maskAt, stageOf, stagesOf, variantOf};
-ghost use Rattle.wire.specs.Reading.{readAs, readBody, readNamed, readRecord, refused, took};
+ghost use Rattle.wire.specs.Bodies.{bodyLength, entryFromBody, keyFromBody, maskAt, stageFromBytes, stagesFromBytes, variantFromBody};
+ghost use Rattle.wire.specs.Reading.{byKind, readAs, readBody, readNumber, readRecord, recordNumber, refused, took};
+ghost use Rattle.values.specs.declared.Refusal.the-variants.{UnknownKind};
+
+// How many bytes a stage has.
+const STAGE_BYTES: usize = 7;
+
+// Where specular add and the projected mask stand in a key's body, behind the eight stages.
+const SPECULAR_AT: usize = 8 * STAGE_BYTES;
+
+const PROJECTED_AT: usize = SPECULAR_AT + 1;
 
 // The stage whose seven bytes begin at a place.
 fn stage_at(body: &[u8], at: usize) -> Stage
     requires { ⌜ at + 7 ≤ length (now body) ⌝ }
-    ensures { λ r. ⌜ r ≡ stageOf (drop at (now (body .entry))) ⌝ }
+    ensures { λ r. ⌜ r ≡ stageFromBytes (drop at (now (body .entry))) ⌝ }
 {
     let colour = Combiner {
         op: body[at],
@@ -47,29 +60,29 @@ fn stage_at(body: &[u8], at: usize) -> Stage
     }
 }
 
-fn stages_of(body: &[u8]) -> [Stage; 8]
-    requires { ⌜ 56 ≤ length (now body) ⌝ }
-    ensures { λ r. ⌜ r ≡ stagesOf 8 (now (body .entry)) ⌝ }
+fn stages_from_bytes(body: &[u8]) -> [Stage; 8]
+    requires { ⌜ bodyLength Kind.Key ≤ length (now body) ⌝ }
+    ensures { λ r. ⌜ r ≡ stagesFromBytes 8 (now (body .entry)) ⌝ }
 {
     let s = blank_stage();
     let mut stages = [s; 8];
     let mut i = 0;
     while i < 8 {
-        stages[i] = stage_at(body, 7 * i);
+        stages[i] = stage_at(body, STAGE_BYTES * i);
         i += 1;
     }
     stages
 }
 
-fn key_of(body: &[u8]) -> Key
-    requires { ⌜ 58 ≤ length (now body) ⌝ }
-    ensures { λ r. ⌜ r ≡ keyOf (now (body .entry)) ⌝ }
+pub fn key_from_body(body: &[u8]) -> Key
+    requires { ⌜ bodyLength Kind.Key ≤ length (now body) ⌝ }
+    ensures { λ r. ⌜ r ≡ keyFromBody (now (body .entry)) ⌝ }
 {
-    let stages = stages_of(body);
+    let stages = stages_from_bytes(body);
     Key {
         stages: stages,
-        specular_add: body[56] == 1,
-        projected: body[57],
+        specular_add: body[SPECULAR_AT] == 1,
+        projected: body[PROJECTED_AT],
     }
 }
 
@@ -83,9 +96,9 @@ fn mask_at(body: &[u8], at: usize) -> u16
     low + 256 * high
 }
 
-fn variant_of(body: &[u8]) -> Variant
-    requires { ⌜ 19 ≤ length (now body) ⌝ }
-    ensures { λ r. ⌜ r ≡ variantOf (now (body .entry)) ⌝ }
+pub fn variant_from_body(body: &[u8]) -> Variant
+    requires { ⌜ bodyLength Kind.Variant ≤ length (now body) ⌝ }
+    ensures { λ r. ⌜ r ≡ variantFromBody (now (body .entry)) ⌝ }
 {
     let depth_sampler = mask_at(body, 3);
     let depth_fetch = mask_at(body, 5);
@@ -110,9 +123,9 @@ fn variant_of(body: &[u8]) -> Variant
     }
 }
 
-fn entry_of(body: &[u8]) -> Entry
-    requires { ⌜ 33 ≤ length (now body) ⌝ }
-    ensures { λ r. ⌜ r ≡ entryOf (now (body .entry)) ⌝ }
+pub fn entry_from_body(body: &[u8]) -> Entry
+    requires { ⌜ bodyLength Kind.Entry ≤ length (now body) ⌝ }
+    ensures { λ r. ⌜ r ≡ entryFromBody (now (body .entry)) ⌝ }
 {
     let mut name = [0u8; 32];
     let mut i = 0;
@@ -129,7 +142,7 @@ fn entry_of(body: &[u8]) -> Entry
 fn refuse(refusal: Refusal) -> Reading
     ensures { λ r. ⌜ r ≡ refused refusal ⌝ }
 {
-    let found = blank_record(Kind::Emit);
+    let found = emit_record();
     Reading {
         answer: ReadAnswer::Refused(refusal),
         found: found,
@@ -148,11 +161,11 @@ fn take_record(found: Record) -> Reading
 }
 
 fn read_key(body: &[u8]) -> Reading
-    requires { ⌜ 58 ≤ length (now body) ⌝ }
+    requires { ⌜ bodyLength Kind.Key ≤ length (now body) ⌝ }
     ensures { λ r. ⌜ r ≡ readBody Kind.Key (now (body .entry)) ⌝ }
 {
-    let key = key_of(body);
-    let specular = body[56];
+    let key = key_from_body(body);
+    let specular = body[SPECULAR_AT];
     if stage_flags_bad(key) {
         return refuse(Refusal::StageFlags);
     }
@@ -163,10 +176,10 @@ fn read_key(body: &[u8]) -> Reading
 }
 
 fn read_variant(body: &[u8]) -> Reading
-    requires { ⌜ 19 ≤ length (now body) ⌝ }
+    requires { ⌜ bodyLength Kind.Variant ≤ length (now body) ⌝ }
     ensures { λ r. ⌜ r ≡ readBody Kind.Variant (now (body .entry)) ⌝ }
 {
-    let variant = variant_of(body);
+    let variant = variant_from_body(body);
     if variant_flags_bad(variant) {
         return refuse(Refusal::VariantFlags);
     }
@@ -174,10 +187,10 @@ fn read_variant(body: &[u8]) -> Reading
 }
 
 fn read_entry(body: &[u8]) -> Reading
-    requires { ⌜ 33 ≤ length (now body) ⌝ }
+    requires { ⌜ bodyLength Kind.Entry ≤ length (now body) ⌝ }
     ensures { λ r. ⌜ r ≡ readBody Kind.Entry (now (body .entry)) ⌝ }
 {
-    let entry = entry_of(body);
+    let entry = entry_from_body(body);
     if !entry_good(entry) {
         return refuse(Refusal::EntryName);
     }
@@ -194,29 +207,30 @@ fn read_as(kind: Kind, body: &[u8]) -> Reading
         Kind::Key => read_key(body),
         Kind::Variant => read_variant(body),
         Kind::Entry => read_entry(body),
-        Kind::Emit => take_record(blank_record(Kind::Emit)),
+        Kind::Emit => take_record(emit_record()),
     }
 }
 
 // A record by its kind byte and what stands behind it.
-fn read_named(byte: u8, body: &[u8]) -> Reading
-    ensures { λ r. ⌜ r ≡ readNamed byte (now (body .entry)) ⌝ }
+fn read_kind(byte: u8, body: &[u8]) -> Reading
+    ensures { λ r. ⌜ r ≡ byKind byte (λ k. readAs k (now (body .entry))) (refused UnknownKind) ⌝ }
 {
     match byte {
-        1 => read_as(Kind::Key, body),
-        2 => read_as(Kind::Variant, body),
-        3 => read_as(Kind::Entry, body),
-        4 => read_as(Kind::Emit, body),
+        KIND_KEY => read_as(Kind::Key, body),
+        KIND_VARIANT => read_as(Kind::Variant, body),
+        KIND_ENTRY => read_as(Kind::Entry, body),
+        KIND_EMIT => read_as(Kind::Emit, body),
         _ => refuse(Refusal::UnknownKind),
     }
 }
 
 // The record at the front of the bytes. Those behind it are not looked at.
 pub fn read(bytes: &[u8]) -> Reading
-    ensures { λ r. ⌜ r ≡ readRecord (now (bytes .entry)) ⌝ }
+    ensures record { λ r. ⌜ r ≡ readRecord (now (bytes .entry)) ⌝ }
+    ensures number { λ r. ⌜ readNumber (r .answer) ≡ recordNumber (now (bytes .entry)) ⌝ }
 {
     if 0 < bytes.len() {
-        return read_named(bytes[0], &bytes[1..]);
+        return read_kind(bytes[0], &bytes[1..]);
     }
     refuse(Refusal::CutShort)
 }

@@ -1,5 +1,8 @@
 //! The writer: a record's bytes at the front of a lent buffer, or why there are none.
-use crate::Checked;
+use crate::KIND_EMIT;
+use crate::KIND_ENTRY;
+use crate::KIND_KEY;
+use crate::KIND_VARIANT;
 use crate::Kind;
 use crate::Record;
 use crate::WriteAnswer;
@@ -14,12 +17,12 @@ use values::Refusal;
 use values::Stage;
 use values::Variant;
 ghost use mathlib.Core.Path.{_≡_};
-ghost use mathlib.Core.List.{_∷_};
+ghost use mathlib.Core.List.{[], _∷_};
 ghost use lib.ListN.{length};
 ghost use Rattle.text.specs.Text.{raw};
 ghost use Rattle.text.specs.Buffer.{Wrote};
-ghost use Rattle.wire.specs.Bodies.{entryBytes, keyBytes, maskBytes, masksBytes, recordBytes, stageBytes, stagesBytes, variantBytes};
-ghost use Rattle.wire.specs.Writing.{bufferAfter, checked, writeAnswer};
+ghost use Rattle.wire.specs.Bodies.{entryBytes, keyBytes, kindByte, maskBytes, masksBytes, recordBytes, stageBytes, stagesBytes, variantBytes};
+ghost use Rattle.wire.specs.Writing.{afterWriting, writeAnswer, writeInto, writeNumber, writtenNumber};
 
 fn put_stage(out: &mut [u8], at: usize, s: Stage) -> usize
     ensures { λ r. ⌜ Wrote (now (out .entry)) at (now (out .exit)) r (raw (stageBytes s)) ⌝ }
@@ -50,9 +53,10 @@ fn put_stages(out: &mut [u8], at: usize, key: Key) -> usize
 }
 
 fn put_key(out: &mut [u8], key: Key) -> usize
-    ensures { λ r. ⌜ Wrote (now (out .entry)) 0 (now (out .exit)) r (raw (1 ∷ keyBytes key)) ⌝ }
+    ensures { λ r. ⌜ Wrote (now (out .entry)) 0 (now (out .exit)) r (raw (kindByte Kind.Key ∷ keyBytes key)) ⌝ }
 {
-    let a = put(out, 0, b"\x01");
+    let first = [KIND_KEY];
+    let a = put(out, 0, &first);
     let b = put_stages(out, a, key);
     let last = [key.specular_add as u8, key.projected];
     put(out, b, &last)
@@ -78,9 +82,9 @@ fn put_masks(out: &mut [u8], at: usize, v: Variant) -> usize
 }
 
 fn put_variant(out: &mut [u8], v: Variant) -> usize
-    ensures { λ r. ⌜ Wrote (now (out .entry)) 0 (now (out .exit)) r (raw (2 ∷ variantBytes v)) ⌝ }
+    ensures { λ r. ⌜ Wrote (now (out .entry)) 0 (now (out .exit)) r (raw (kindByte Kind.Variant ∷ variantBytes v)) ⌝ }
 {
-    let first = [2, v.alpha_func, v.fog_mode, v.fog_table_mode];
+    let first = [KIND_VARIANT, v.alpha_func, v.fog_mode, v.fog_table_mode];
     let a = put(out, 0, &first);
     let b = put_masks(out, a, v);
     let last = [v.sample_mask, v.flags];
@@ -88,12 +92,19 @@ fn put_variant(out: &mut [u8], v: Variant) -> usize
 }
 
 fn put_entry(out: &mut [u8], entry: Entry) -> usize
-    ensures { λ r. ⌜ Wrote (now (out .entry)) 0 (now (out .exit)) r (raw (3 ∷ entryBytes entry)) ⌝ }
+    ensures { λ r. ⌜ Wrote (now (out .entry)) 0 (now (out .exit)) r (raw (kindByte Kind.Entry ∷ entryBytes entry)) ⌝ }
 {
-    let first = [3, entry.len];
+    let first = [KIND_ENTRY, entry.len];
     let name = entry.name;
     let a = put(out, 0, &first);
     put(out, a, &name)
+}
+
+fn put_emit(out: &mut [u8]) -> usize
+    ensures { λ r. ⌜ Wrote (now (out .entry)) 0 (now (out .exit)) r (raw (kindByte Kind.Emit ∷ [])) ⌝ }
+{
+    let only = [KIND_EMIT];
+    put(out, 0, &only)
 }
 
 fn put_record(out: &mut [u8], made: Record) -> usize
@@ -107,52 +118,59 @@ fn put_record(out: &mut [u8], made: Record) -> usize
         Kind::Key => put_key(out, key),
         Kind::Variant => put_variant(out, variant),
         Kind::Entry => put_entry(out, entry),
-        Kind::Emit => put(out, 0, b"\x04"),
+        Kind::Emit => put_emit(out),
     }
 }
 
-pub fn check(made: Record) -> Checked
-    ensures { λ r. ⌜ r ≡ checked made ⌝ }
+// The record's length, unless the buffer is shorter.
+fn judge_room(kind: Kind, room: usize) -> WriteAnswer
+    ensures { λ r. ⌜ r ≡ writeInto room kind ⌝ }
+{
+    let n = record_length(kind);
+    if room < n {
+        return WriteAnswer::Refused(Refusal::NoRoom);
+    }
+    WriteAnswer::Wrote(n)
+}
+
+// What is answered, before anything is written: 3, 5 or 6 of the value, else what is answered for one that is free of them.
+fn judge(made: Record, room: usize) -> WriteAnswer
+    ensures { λ r. ⌜ r ≡ writeAnswer made room ⌝ }
 {
     let kind = made.kind;
     let key = made.key;
     let variant = made.variant;
     let entry = made.entry;
+    let free = judge_room(kind, room);
     match kind {
         Kind::Key => {
             if stage_flags_bad(key) {
-                return Checked::Bad(Refusal::StageFlags);
+                return WriteAnswer::Refused(Refusal::StageFlags);
             }
         }
         Kind::Variant => {
             if variant_flags_bad(variant) {
-                return Checked::Bad(Refusal::VariantFlags);
+                return WriteAnswer::Refused(Refusal::VariantFlags);
             }
         }
         Kind::Entry => {
             if !entry_good(entry) {
-                return Checked::Bad(Refusal::EntryName);
+                return WriteAnswer::Refused(Refusal::EntryName);
             }
         }
         Kind::Emit => {}
     }
-    Checked::Good
+    free
 }
 
 pub fn write(made: Record, out: &mut [u8]) -> WriteAnswer
     ensures answer { λ r. ⌜ r ≡ writeAnswer made (length (now (out .entry))) ⌝ }
-    ensures buffer { λ r. ⌜ now (out .exit) ≡ bufferAfter r (recordBytes made) (now (out .entry)) ⌝ }
+    ensures buffer { λ r. ⌜ now (out .exit) ≡ afterWriting r (recordBytes made) (now (out .entry)) ⌝ }
+    ensures number { λ r. ⌜ writeNumber r ≡ writtenNumber made (length (now (out .entry))) ⌝ }
 {
-    let kind = made.kind;
-    let n = record_length(kind);
-    match check(made) {
-        Checked::Bad(refusal) => WriteAnswer::Refused(refusal),
-        Checked::Good => {
-            if out.len() < n {
-                return WriteAnswer::Refused(Refusal::NoRoom);
-            }
-            put_record(out, made);
-            WriteAnswer::Wrote(n)
-        }
+    let answer = judge(made, out.len());
+    if let WriteAnswer::Wrote(_) = answer {
+        put_record(out, made);
     }
+    answer
 }

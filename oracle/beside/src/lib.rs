@@ -1,68 +1,129 @@
-//! What the programs beside the archive share: records for its functions, the numbers that the Rust's answers give, and buffers that show what was
-//! written outside.
+//! What the programs beside the archive share: values as the archive takes them, what its functions must answer where the Rust gives something, and
+//! buffers that show what was written outside.
 
 mod lent;
+
+use std::fmt::Debug;
 
 use oraclelib::{
     Outcome,
     program::Record,
-    records::{ENTRY, KEY, Kind, Refusal, Triple, VARIANT, record},
+    records::{ENTRY, KEY, Kind, Refusal, Triple, VARIANT},
 };
-use yuzuknoll::packed;
+use yuzuknoll::raw::{self, Applied, Emitted};
 
 pub use lent::Lent;
 
-/// The three records of a triple.
+/// The key, the variant and the entry of a triple, as `yuzuknoll_emit` takes them.
 #[derive(Clone, Copy, Debug, PartialEq, Eq)]
-pub struct Records {
-    pub key: [u8; KEY + 1],
-    pub variant: [u8; VARIANT + 1],
-    pub entry: [u8; ENTRY + 1],
+pub struct Bodies {
+    pub key: [u8; KEY],
+    pub variant: [u8; VARIANT],
+    pub entry: [u8; ENTRY],
 }
 
-impl Records {
+impl Bodies {
     /// # Panics
     /// Never: a body has the size of its kind.
     #[must_use]
     pub fn of(triple: &Triple) -> Self {
-        let sized = "a record of its size";
+        let sized = "a body of its size";
         Self {
-            key: record(Kind::Key, &triple.key.body())
-                .try_into()
-                .expect(sized),
-            variant: record(Kind::Variant, &triple.variant.body())
-                .try_into()
-                .expect(sized),
-            entry: record(Kind::Entry, &triple.entry.body())
-                .try_into()
-                .expect(sized),
+            key: triple.key.body().try_into().expect(sized),
+            variant: triple.variant.body().try_into().expect(sized),
+            entry: triple.entry.body().try_into().expect(sized),
         }
     }
 
-    /// The number that `yuzuknoll_emit` answers.
+    /// What `yuzuknoll_emit` returns.
     #[must_use]
-    pub fn emit(&self, out: &mut [u8]) -> u64 {
-        packed::emit(&self.key, &self.variant, &self.entry, out)
+    pub fn emit(&self, text: &mut [u8], result: &mut Emitted) -> u64 {
+        raw::emit(&self.key, &self.variant, &self.entry, text, result)
     }
 }
 
-/// What `yuzuknoll_emit` must answer where the Rust gives this.
-///
-/// # Panics
-/// If the mask has more than eight bits, or the text 65,536 bytes.
-#[must_use]
-pub fn emitted(o: &Outcome) -> u64 {
-    let mask = u8::try_from(o.mask).expect("eight stages");
-    let [low, high] = u16::try_from(o.text.len())
-        .expect("a text of 01")
-        .to_le_bytes();
-    u64::from_le_bytes([0, mask, o.rows, o.lookups, o.warning, low, high, 0])
+/// What a call returned, and what its report holds afterwards.
+#[derive(Clone, Copy, Debug, PartialEq, Eq)]
+pub struct Answer<T> {
+    pub number: u64,
+    pub report: T,
 }
 
-/// What `yuzuknoll_read` and `yuzuknoll_write` must answer where the Rust side reads this.
+impl<T: Copy> Answer<T> {
+    /// What must come of a call whose report held something before it: a refusal leaves that.
+    #[must_use]
+    pub fn of(result: Result<T, Refusal>, before: T) -> Self {
+        match result {
+            Ok(report) => Self { number: 0, report },
+            Err(refusal) => Self {
+                number: refusal.number().into(),
+                report: before,
+            },
+        }
+    }
+}
+
+/// What a call reports into.
+pub trait Report: Copy + Debug + PartialEq {
+    /// Numbers that no call reports, by which a report that was left can be told.
+    fn filled(from: u8) -> Self;
+}
+
+/// The n-th such number.
+fn filling(from: u8, n: u64) -> u64 {
+    0xf0f0_f0f0_0000_0000 | u64::from(from) << 8 | n
+}
+
+impl Report for Emitted {
+    fn filled(from: u8) -> Self {
+        Self {
+            length: filling(from, 2),
+            mask: filling(from, 3),
+            rows: filling(from, 4),
+            lookups: filling(from, 5),
+            warning: filling(from, 6),
+        }
+    }
+}
+
+impl Report for raw::Record {
+    fn filled(from: u8) -> Self {
+        Self {
+            kind: filling(from, 0),
+            taken: filling(from, 1),
+        }
+    }
+}
+
+impl Report for Applied {
+    fn filled(from: u8) -> Self {
+        Self {
+            kind: filling(from, 0),
+            taken: filling(from, 1),
+            result: Emitted::filled(from),
+        }
+    }
+}
+
+/// What `yuzuknoll_emit` must report where the Rust gives this.
 #[must_use]
-pub fn taken(kind: Kind) -> u64 {
-    (kind as u64) << 8 | (length(kind) as u64) << 16
+pub fn emitted(o: &Outcome) -> Emitted {
+    Emitted {
+        length: o.text.len() as u64,
+        mask: o.mask.into(),
+        rows: o.rows.into(),
+        lookups: o.lookups.into(),
+        warning: o.warning.into(),
+    }
+}
+
+/// What `yuzuknoll_read` and `yuzuknoll_write` must report of a record of a kind.
+#[must_use]
+pub fn taken(kind: Kind) -> raw::Record {
+    raw::Record {
+        kind: kind as u64,
+        taken: length(kind) as u64,
+    }
 }
 
 /// Bytes of a record of a kind.
@@ -71,23 +132,24 @@ pub const fn length(kind: Kind) -> usize {
     1 + kind.size()
 }
 
-/// What `yuzuknoll_apply` must answer where the Rust side takes a record of a kind, with an outcome if it emits.
+/// What `yuzuknoll_apply` must report where the Rust side takes a record of a kind, with an outcome if it emits.
 #[must_use]
-pub fn applied(kind: Kind, outcome: Option<&Outcome>) -> u64 {
-    outcome.map_or(0, emitted) | (length(kind) as u64) << 56
+pub fn applied(kind: Kind, outcome: Option<&Outcome>) -> Applied {
+    let raw::Record { kind, taken } = taken(kind);
+    Applied {
+        kind,
+        taken,
+        result: outcome.map_or_else(Emitted::default, emitted),
+    }
 }
 
-/// What each function must answer to a refusal.
-#[must_use]
-pub fn refused(refusal: Refusal) -> u64 {
-    refusal.number().into()
-}
-
-/// What a read record must answer, refused or not.
-#[must_use]
-pub fn read_answer(read: &Result<Record, Refusal>) -> u64 {
+/// What must be reported of a record that the Rust side read or refused.
+///
+/// # Errors
+/// The refusal.
+pub fn read_result(read: &Result<Record, Refusal>) -> Result<raw::Record, Refusal> {
     match read {
-        Ok(record) => taken(record.kind()),
-        Err(refusal) => refused(*refusal),
+        Ok(record) => Ok(taken(record.kind())),
+        Err(refusal) => Err(*refusal),
     }
 }

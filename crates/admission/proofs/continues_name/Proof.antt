@@ -1,3 +1,4 @@
+-- What starts a name, or a digit, as the definition says.
 use Rattle.admission.proofs.continues_name.Statement.{statement}
 use Rattle.admission.proofs.continues_name.Tie as tie
 

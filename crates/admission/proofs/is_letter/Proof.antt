@@ -1,3 +1,4 @@
+-- The two ranges are those of the definition.
 use Rattle.admission.proofs.is_letter.Statement.{statement}
 use Rattle.admission.proofs.is_letter.Tie as tie
 

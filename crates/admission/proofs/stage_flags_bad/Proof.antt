@@ -1,3 +1,4 @@
+-- The stages passed have no bad flags, so those left decide.
 use mathlib.Core.Path.{_≡_, sym, _∙_}
 use mathlib.Core.Bool.{true, false}
 use mathlib.Core.List.{List}
@@ -26,7 +27,6 @@ module _ (l : List Stage) (i : ℕ) where
   unfolding stageFlagsBad
   over h = rw (drop-of-length-le l h)
 
--- the stages passed have no bad flags
 abbrev Inv-loop : tie.InvT-loop
 Inv-loop key i₀ i = (i ≤ 8) × (length (key .stages) ≡ 8) × (stageFlagsBad (drop i (key .stages)) ≡ stageFlagsBad (key .stages))
 
@@ -40,12 +40,6 @@ returns : tie.Need-returns Inv-loop μ-loop
 returns c =
     let b = c .before .before .before .before in
     bad (b .before .args .t1 .stages) (b .loop .i) _ (omega arith) (c .if1 .taken) ∙ b .loop .inv .2
-
-add-i : tie.Need-add-i Inv-loop μ-loop
-add-i c = omega arith
-
-loop-less : tie.Need-loop-less Inv-loop μ-loop
-loop-less c = omega arith
 
 loop-again : tie.Need-loop-again Inv-loop μ-loop
 loop-again c =
@@ -67,7 +61,7 @@ stage-flags-bad-spec =
     (λ c. search needs)
     (λ c. search needs)
     returns
-    add-i
-    loop-less
+    (λ c. omega arith)
+    (λ c. omega arith)
     loop-again
     returns-2)

@@ -1,3 +1,4 @@
+-- A letter or an underscore, as the definition says.
 use Rattle.admission.proofs.starts_name.Statement.{statement}
 use Rattle.admission.proofs.starts_name.Tie as tie
 

@@ -1,3 +1,4 @@
+-- The test is the definition's.
 use mathlib.Core.Path.{refl}
 use Rattle.admission.proofs.variant_flags_bad.Statement.{statement}
 use Rattle.admission.proofs.variant_flags_bad.Tie as tie

@@ -1,9 +1,8 @@
 -- The first check that refuses gives the table's first cause; values that pass all three are admitted, and `emit_checked` says the rest.
-use mathlib.Core.Bool.{true, false}
+use mathlib.Core.Bool.{false}
 use mathlib.Core.Path.{_≡_, refl, sym, _∙_}
 use borrow.Author.Needs.{needs}
 use borrow.Author.Tests.{not-true, not-false}
-use Rattle.values.specs.Entries.{entryGood}
 use Rattle.values.specs.Flags.{stageFlagsBad, variantFlagsBad}
 use Rattle.emission.proofs.Answers.{stage-flags, variant-flags, entry-name, numbered}
 use Rattle.emission.proofs.emit.Statement.{statement}
@@ -46,4 +45,13 @@ emit-checked-requires c κs =
 pub emit-spec : {M : Type 1} → statement M
 emit-spec =
     tie.close
-    (tie.spec (λ c κs. tt) returns (λ c κs. tt) returns-2 (λ c κs. tt) returns-3 emit-checked-requires (λ c. search needs) (λ c. c .before .before .emit-checked .ensures))
+    (tie.spec
+    (λ c κs. tt)
+    returns
+    (λ c κs. tt)
+    returns-2
+    (λ c κs. tt)
+    returns-3
+    emit-checked-requires
+    (λ c. search needs)
+    (λ c. c .before .before .emit-checked .ensures))

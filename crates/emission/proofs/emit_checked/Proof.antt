@@ -7,11 +7,11 @@ use borrow.Author.Needs.{needs}
 use lib.ListN.{length, length-map}
 use Rattle.values.specs.declared.Answer.the-variants.{Text}
 use Rattle.shader.specs.Results.{textOf}
-use Rattle.emission.proofs.Answers.{survey-warning, entry-short, Laid, laid-fits, laid-over, laid-length, no-room, with-room, numbered, accepted, demanded}
+use Rattle.emission.proofs.Answers.{survey-warning, entry-short, no-room, with-room, numbered, accepted, demanded}
 use Rattle.emission.proofs.emit_checked.Statement.{statement}
 use Rattle.emission.proofs.emit_checked.Tie as tie
 
--- behind `put_text`: what was handed in, its text, and what became of the buffer
+-- behind `put_text`: what was handed in, its text, and the buffer as it was
 module _ (c : tie.After-put-text) where
   abbrev start : tie.Start
   start = c .before .before .before .before
@@ -22,9 +22,6 @@ module _ (c : tie.After-put-text) where
   abbrev out : List ℕ
   out = start .args .out .now
 
-  abbrev laid : Laid text out (c .put-text .last .0)
-  laid = c .put-text .ensures .1 .0
-
 put-text-requires : tie.Need-put-text-requires
 put-text-requires c κs =
     let s = c .before .before .before in
@@ -34,9 +31,10 @@ returns : tie.Need-returns
 returns c =
     let p = c .before .before .before .before in
     let s = start p in
-    let h : length (out p) < length (text p) = omega (arith, p .put-text .ensures .0, laid-length (text p) (out p) (laid p), c .if1 .taken) in
+    let w = p .put-text .ensures in
+    let h : length (out p) < length (text p) = omega (arith, w .0, c .if1 .taken) in
     let a = no-room (s .args .key) (s .args .variant) (s .args .entry) (length (out p)) (s .pre) h in
-    (a, (laid-over (text p) (out p) h (laid p), (tt, numbered _ _ _ _ a)))
+    (a, (w .1 .1 .0 h, (tt, numbered _ _ _ _ a)))
 
 warning-of-requires : tie.Need-warning-of-requires
 warning-of-requires c κs = let p = c .before .before .before .before in survey-warning _ _ (p .before .before .survey .ensures)
@@ -51,9 +49,9 @@ returns-2 c =
     let e = s .args .entry in
     let w = p .put-text .ensures in
     let stages : length (k .stages) ≡ 8 = sym (length-map (k .stages) _) ∙ s .good .0 .1 .1 .0 .1 .0 .1 in
-    let h : length (text p) ≤ length (out p) = omega (arith, w .0, laid-length (text p) (out p) (laid p), c .before .if1 .left) in
-    let m = accepted k v e (u .survey .result) _ _ _ (u .survey .ensures) (w .0) (w .1 .1) (c .warning-of .ensures) in
-    let b = laid-fits (text p) (out p) h (laid p) in
+    let h : length (text p) ≤ length (out p) = omega (arith, w .0, c .before .if1 .left) in
+    let m = accepted k v e (u .survey .result) _ _ _ (u .survey .ensures) (w .0) (w .1 .1 .1) (c .warning-of .ensures) in
+    let b = w .1 .0 h in
     let a = ap Text m ∙ with-room k v e (length (out p)) (s .pre) h in
     (a, (b, (demanded k v e _ (out p) _ (omega arith) (s .pre .entryName) m b, numbered k v e (length (out p)) a)))
 

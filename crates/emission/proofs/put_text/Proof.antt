@@ -1,6 +1,7 @@
--- `put_text` lays the text to the front of the buffer, at once or from aside.
-use Prim.Native.Nat.{_≤_}
-use mathlib.Core.Path.{_≡_, sym, _∙_}
+-- A buffer of 16,384 bytes takes the text at once; for a shorter one the text is written aside, where it fits, and copied from there if it fits.
+use Prim.Native.Nat.{ℕ, _≤_, _<_}
+use mathlib.Core.Path.{_≡_, refl, sym, _∙_}
+use mathlib.Core.List.{List}
 use native.Mathlib.Nat.{le-trans}
 use native.Mathlib.Omega.{arith}
 use borrow.Author.Needs.{needs}
@@ -9,59 +10,74 @@ use lib.Seq.{length-take-le}
 use Rattle.text.proofs.Laws.{keeps}
 use Rattle.shader.specs.Results.{textOf}
 use Rattle.shader.proofs.Length.{at-most}
-use Rattle.emission.proofs.Answers.{placed, laid-whole, laid-not, laid-copy}
+use Rattle.emission.proofs.Answers.{placed, copied}
 use Rattle.emission.proofs.put_text.Statement.{statement}
 use Rattle.emission.proofs.put_text.Tie as tie
 
--- no text is longer than 16,384 bytes: the stages and the name of a value have the lengths of their types
-short : (s : tie.Start) → length (textOf (s .args .k) (s .args .v) (s .args .e)) ≤ 16384
-short s =
-    let k = s .args .k in
-    let e = s .args .e in
-    let m : length (k .stages) ≡ 8 = sym (length-map (k .stages) _) ∙ s .good .1 .0 .1 .1 .0 .1 .0 .1 in
-    let n : length (e .name) ≡ 32 = sym (length-map (e .name) _) ∙ s .good .1 .1 .1 .0 .1 .1 .1 .0 .1 .0 .1 in
-    at-most k (s .args .v) e (omega (arith, m)) (omega (arith, n))
+module _ (s : tie.Start) where
+  abbrev text : List ℕ
+  text = textOf (s .args .k) (s .args .v) (s .args .e)
+
+  -- the stages and the name of a value have the lengths of their types
+  short : length text ≤ 16384
+  short =
+      let k = s .args .k in
+      let e = s .args .e in
+      let stages : length (k .stages) ≡ 8 = sym (length-map (k .stages) _) ∙ s .good .1 .0 .1 .1 .0 .1 .0 .1 in
+      let name : length (e .name) ≡ 32 = sym (length-map (e .name) _) ∙ s .good .1 .1 .1 .0 .1 .1 .1 .0 .1 .0 .1 in
+      at-most k (s .args .v) e (omega (arith, stages)) (omega (arith, name))
 
 returns : tie.Need-returns
 returns c =
-    let s2 = c .before .before in
-    let s1 = s2 .before .before in
-    let s = s1 .before .before in
-    let w = s2 .put-whole .ensures in
-    let h = le-trans (short s) (s1 .if1 .taken) in
-    let p = placed (s .args .k) (s .args .v) (s .args .e) (w .0) h in
-    (p .0, (laid-whole (textOf (s .args .k) (s .args .v) (s .args .e)) (s .args .out .now) h (p .1), w .1))
+    let p = c .before .before in
+    let t = p .before .before in
+    let s = t .before .before in
+    let h = le-trans (short s) (t .if1 .taken) in
+    let w = p .put-whole .ensures in
+    let l = placed (s .args .k) (s .args .v) (s .args .e) (w .0) h in
+    (l .0, ((λ f. l .1), ((λ o. absurd (omega (arith, h, o))), w .1)))
+
+-- behind the writing aside
+module _ (c : tie.After-put-whole2) where
+  abbrev start : tie.Start
+  start = c .before .before .before .before
+
+  end : c .put-whole2 .result .at ≡ length (text start)
+  end = placed (start .args .k) (start .args .v) (start .args .e) (c .put-whole2 .ensures .0) (short start) .0
+
+  within : c .put-whole2 .result .at ≤ length (c .put-whole2 .last .0)
+  within = omega (arith, end, short start, keeps (c .put-whole2 .ensures .0))
 
 returns-2 : tie.Need-returns-2
 returns-2 c =
-    let s3 = c .before .before in
-    let s2 = s3 .before .before .before in
-    let s1 = s2 .before .before .before in
-    let s = s1 .before .before .before .before in
-    let w = s1 .put-whole2 .ensures in
-    let p = placed (s .args .k) (s .args .v) (s .args .e) (w .0) (short s) in
-    (p .0, (laid-copy (textOf (s .args .k) (s .args .v) (s .args .e)) (s .args .out .now) _ _ (p .0) (p .1) (omega (arith, p .0, s2 .if2 .taken)) (s3 .put .ensures .written), w .1))
+    let t = c .before .before .before .before .before in
+    let p = t .before .before .before in
+    let s = start p in
+    let w = p .put-whole2 .ensures in
+    let h : length (text s) ≤ length (s .args .out .now) = omega (arith, end p, t .if2 .taken) in
+    let aside = placed (s .args .k) (s .args .v) (s .args .e) (w .0) (short s) .1 in
+    let l = copied (text s) (s .args .out .now) _ _ (end p) aside h (c .before .before .put .ensures .written) in
+    (end p, ((λ f. l), ((λ o. absurd (omega (arith, h, o))), w .1)))
 
 returns-3 : tie.Need-returns-3
 returns-3 c =
-    let s1 = c .before .before .before in
-    let s = s1 .before .before .before .before in
-    let w = s1 .put-whole2 .ensures in
-    let p = placed (s .args .k) (s .args .v) (s .args .e) (w .0) (short s) in
-    (p .0, (laid-not (textOf (s .args .k) (s .args .v) (s .args .e)) (s .args .out .now) (omega (arith, p .0, c .if2 .left)), w .1))
+    let p = c .before .before .before in
+    let s = start p in
+    let h : length (s .args .out .now) < length (text s) = omega (arith, end p, c .if2 .left) in
+    (end p, ((λ f. absurd (omega (arith, h, f))), ((λ o. refl), p .put-whole2 .ensures .1)))
 
 pub put-text-spec : {M : Type 1} → statement M
 put-text-spec =
     tie.close
     (tie.spec
     (λ c κs. c .before .before .before .pre)
-    (λ c. keeps (c .before .before .put-whole .ensures .0))
+    (λ c. search needs)
     returns
     (λ c. search needs)
     (λ c κs. c .before .before .before .pre)
-    (λ c. let s1 = c .before .before .before .before in let s = s1 .before .before .before .before in omega (arith, placed (s .args .k) (s .args .v) (s .args .e) (s1 .put-whole2 .ensures .0) (short s) .0, short s, keeps (s1 .put-whole2 .ensures .0)))
-    (λ c. let s1 = c .before .before .before .before .before in let s = s1 .before .before .before .before in sym (length-take-le _ _ (omega (arith, placed (s .args .k) (s .args .v) (s .args .e) (s1 .put-whole2 .ensures .0) (short s) .0, short s, keeps (s1 .put-whole2 .ensures .0)))))
+    (λ c. within (c .before .before .before .before))
+    (λ c. sym (length-take-le _ _ (within (c .before .before .before .before .before))))
     (λ c κs. tt)
-    (λ c. keeps (c .before .before .put .ensures .written))
+    (λ c. search needs)
     returns-2
     returns-3)

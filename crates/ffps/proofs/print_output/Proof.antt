@@ -1,21 +1,26 @@
+-- The loop ends, since each record takes a byte at least.
 use Prim.Native.Nat.{_-_}
 use native.Mathlib.Omega.{arith}
 use borrow.Author.Tests.{not-false}
 use lib.ListN.{length}
+use Rattle.printout.proofs.Printed.{further}
 use Rattle.ffps.proofs.print_output.Statement.{statement}
 use Rattle.ffps.proofs.print_output.Tie as tie
 
 abbrev Inv-loop : tie.InvT-loop
 Inv-loop input line₀ text₀ session₀ line text session = Unit {0}
 
--- each record takes a byte at least
 abbrev μ-loop : tie.MeasureT-loop
 μ-loop input line₀ text₀ session₀ line text session = length input - session .at
 
 loop-less : tie.Need-loop-less Inv-loop μ-loop
 loop-less c =
-    let p = c .before .before .before .before .before .print-step .ensures (not-false _ (c .before .if2 .left)) in
-    omega (arith, p .0, p .1)
+    let s2 = c .before in
+    let s1 = s2 .before .before .before .before .before .before in
+    let l = s1 .before .before .before in
+    let a = l .before .before .before .args in
+    let f = further (l .loop .session) (a .input .now) (l .loop .text) (s1 .step .ensures .0) (not-false _ (s2 .if2 .left)) in
+    omega (arith, f .0, f .1)
 
 pub print-output-spec : {M : Type 1} → statement M
 print-output-spec =
@@ -25,6 +30,7 @@ print-output-spec =
     μ-loop
     (λ c κs. tt)
     (λ c. tt)
+    (λ c κs. tt)
     (λ c κs. tt)
     (λ c. tt)
     (λ c. tt)

@@ -1,9 +1,8 @@
-use Rattle.records.specs.Applying.{nothingHeld}
+-- The values held at first are those of a blank record.
 use Rattle.records.proofs.nothing_held.Statement.{statement}
 use Rattle.records.proofs.nothing_held.Tie as tie
 
 returns : tie.Need-returns
-unfolding nothingHeld
 returns c = rw (c .before .before .before .blank-record .ensures)
 
 pub nothing-held-spec : {M : Type 1} → statement M

@@ -1,5 +1,5 @@
 -- The check of an argument's text.
-use Prim.Native.Nat.{ℕ, suc, _+_, _-_, _<_}
+use Prim.Native.Nat.{ℕ, suc, _+_, _<_}
 use mathlib.Core.Path.{sym, subst}
 use mathlib.Core.List.{[]}
 use mathlib.Core.Bool.{Bool, true, false}

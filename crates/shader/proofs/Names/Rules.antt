@@ -10,7 +10,7 @@ use Rattle.combiners.specs.Codes.{disable, selectArg2, blendFactorAlpha, textur
 use Rattle.combiners.specs.Combiners.{hasText, keepsFirst, keepsSecond}
 use Rattle.cascade.specs.Keys.{textured, toTemp, active, selects, reads, readsFirst, readsSecond, fallsBack, isBumpOp, bump, alphaFromColour, maskOf, readsConstant, namesFactor, lastConstant, anyFactor, rowsOf}
 use Rattle.cascade.specs.Stages.{fallback, combined, alphaOf}
-use Rattle.cascade.specs.Reading.{keeps, readsTempBy, readsTexelBy, alphaWritten, readsTemp, readsTexel, live, lined, marked, lookupsOf, luminance, readsBumpEnv}
+use Rattle.cascade.specs.Reading.{keeps, readsTexelBy, alphaWritten, readsTemp, readsTexel, live, lined, marked, lookupsOf, luminance, readsBumpEnv}
 use Rattle.values.specs.declared.Combiner.{Combiner}
 use Rattle.values.specs.declared.Stage.{Stage}
 use Rattle.cascade.specs.declared.Alpha.{Alpha}
@@ -241,18 +241,13 @@ unfolding lined
 lined-temp true s l t = tt
 lined-temp false s l t = T-not (toTemp s && true) l (both (toTemp s) true t tt)
 
-pub colour-texel : (s : Stage) → T (readsTexelBy (textured s) (s .colour)) → T (readsTexel s)
-unfolding readsTexel
-colour-texel s t = inl (readsTexelBy (textured s) (s .colour)) _ t
+-- what the colour expression reads, and the alpha expression where it is written, the stage reads
+module _ (by : Bool → Combiner → Bool) (s : Stage) where
+  abbrev stageReads : Bool
+  stageReads = by (textured s) (s .colour) || (alphaWritten s && by (textured s) (s .alpha))
 
-pub alpha-texel : (s : Stage) → T (alphaWritten s) → T (readsTexelBy (textured s) (s .alpha)) → T (readsTexel s)
-unfolding readsTexel
-alpha-texel s w t = inr (readsTexelBy (textured s) (s .colour)) _ (both (alphaWritten s) _ w t)
+  pub colour-reads : T (by (textured s) (s .colour)) → T stageReads
+  colour-reads t = inl (by (textured s) (s .colour)) _ t
 
-pub colour-temp : (s : Stage) → T (readsTempBy (textured s) (s .colour)) → T (readsTemp s)
-unfolding readsTemp
-colour-temp s t = inl (readsTempBy (textured s) (s .colour)) _ t
-
-pub alpha-temp : (s : Stage) → T (alphaWritten s) → T (readsTempBy (textured s) (s .alpha)) → T (readsTemp s)
-unfolding readsTemp
-alpha-temp s w t = inr (readsTempBy (textured s) (s .colour)) _ (both (alphaWritten s) _ w t)
+  pub alpha-reads : T (alphaWritten s) → T (by (textured s) (s .alpha)) → T stageReads
+  alpha-reads w t = inr (by (textured s) (s .colour)) _ (both (alphaWritten s) _ w t)

@@ -32,7 +32,7 @@ use Rattle.shader.proofs.Names.Arguments.{Base, base-more, texel, Sure,
 use Rattle.shader.proofs.Names.Operations.{op-frag}
 use Rattle.shader.proofs.Names.Order.{aim, textureOf, samplerOf}
 use Rattle.shader.proofs.Names.Lookups.{Behind, sample-reads}
-use Rattle.shader.proofs.Names.Rules.{Enabled, marked-bound, alpha-cases, colour-constant, alpha-constant, colour-factor, alpha-factor, last-head, last-tail, factor-head, factor-tail, live-head, live-tail, env-head, env-tail, mark-bump, mark-line, lined-temp, colour-texel, alpha-texel, colour-temp, alpha-temp}
+use Rattle.shader.proofs.Names.Rules.{Enabled, marked-bound, alpha-cases, colour-constant, alpha-constant, colour-factor, alpha-factor, last-head, last-tail, factor-head, factor-tail, live-head, live-tail, env-head, env-tail, mark-bump, mark-line, lined-temp, colour-reads, alpha-reads}
 
 -- what a combiner's expression needs at stage i
 pub record Readable (A : Aim) (K : Known) (i : ℕ) (tex : Bool) (c : Combiner) : Type 0 where
@@ -147,7 +147,7 @@ module _ (sprite : Bool) (rows total : ℕ) (v : Variant) (projected : ℕ) (ali
   module _ (i : ℕ) (s : Stage) (r : List Stage) where
     line-reads : (K K₀ : Known) (before : Before) → Has K₀ K → Env K₀ before i (s ∷ r) → (T (marked alive (s ∷ r)) → T (K .has (texel i)))
         → Reads A K [] (flat (stageLine alive i s (decode s))) K []
-    unfolding stageLine decode
+    unfolding stageLine decode readsTexel readsTemp
     line-reads K K₀ before u e m =
         cond-cases (bump s) _ _ (λ d. Reads A K [] (flat (stageLine alive i s d)) K []) (λ b. done) λ b.
         cond-cases (lined alive s) _ [] (λ x. Reads A K [] x K [])
@@ -160,8 +160,8 @@ module _ (sprite : Bool) (rows total : ℕ) (v : Variant) (projected : ℕ) (ali
         let factors : T (namesFactor s) → 0 < rows = λ t. e .factors (factor-head s r t) in
         let colour : Readable A K i (textured s) (s .colour) =
         record {
-          isTexel = λ t. texels (colour-texel s t);
-          isTemp = λ t. temps (colour-temp s t);
+          isTexel = λ t. texels (colour-reads readsTexelBy s t);
+          isTemp = λ t. temps (colour-reads readsTempBy s t);
           isConstant = λ f t. constants (colour-constant s (e .enabled .0) f t);
           isFactor = λ t. factors (colour-factor s t);
         } in
@@ -173,8 +173,8 @@ module _ (sprite : Bool) (rows total : ℕ) (v : Variant) (projected : ℕ) (ali
         (λ c n b w. written-line base i l (textured s) (toTemp s) temped _ f (combined (textured s) (s .alpha))
         (combined-frag base i l (textured s) (s .alpha)
         (record {
-          isTexel = λ t. texels (alpha-texel s w t);
-          isTemp = λ t. temps (alpha-temp s w t);
+          isTexel = λ t. texels (alpha-reads readsTexelBy s w t);
+          isTemp = λ t. temps (alpha-reads readsTempBy s w t);
           isConstant = λ f t. constants (alpha-constant s c n f t);
           isFactor = λ t. factors (alpha-factor s n t);
         }) b)))

@@ -190,10 +190,10 @@ declared-read {A} {K} {n = n} w {x} {y} t W p o h =
         ∙ ap (λ (os : List Occurrence). os ++ scan context (tokens r)) e
 
 -- a line whose template declares what stands in its first slot
-abbrev pub frontOf : List Piece → List ℕ
-frontOf [] = []
-frontOf (words w ∷ r) = w
-frontOf (slot v ∷ r) = []
+abbrev pub firstWords : List Piece → List ℕ
+firstWords [] = []
+firstWords (words w ∷ r) = w
+firstWords (slot v ∷ r) = []
 
 abbrev pub behindName : List Piece → List Piece
 behindName [] = []
@@ -202,7 +202,7 @@ behindName (p ∷ (q ∷ r)) = r
 
 abbrev pub fitsLine : List Piece → Text → Bool
 fitsLine ps t =
-    (joins t && (joins (right t) && same (flat (left t)) (frontOf ps))) && (introduces (frontOf ps)
+    (joins t && (joins (right t) && same (flat (left t)) (firstWords ps))) && (introduces (firstWords ps)
     && (opens (flat (right (right t))) && (fits (behindName ps) (right (right t)) && endsAll (behindName ps))))
 
 pub line-reads : {A : Aim} {K : Known} {n : Name} (s : String) (t : Text) → T (fitsLine (cut s) t) → Word (flat (left (right t))) n
@@ -213,7 +213,7 @@ line-reads s (pick b t u) f W p m = absurd f
 line-reads s (t ⊕ raw x) f W p m = absurd f
 line-reads s (t ⊕ pick b u v) f W p m = absurd f
 line-reads {A} {K} {n} s (t ⊕ (x ⊕ y)) f W p m =
-    let front = frontOf (cut s) in
+    let front = firstWords (cut s) in
     let behind = behindName (cut s) in
     let f₁ = and-snd (same (flat t) front) _ f in
     let f₂ = and-snd (introduces front) _ f₁ in

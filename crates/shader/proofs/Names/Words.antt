@@ -6,7 +6,7 @@ use mathlib.Core.List.{List, [], _∷_, _++_}
 use mathlib.Core.Bool.{Bool, true, false, not, _&&_, cond, and-false}
 use mathlib.Core.Option.{Option, none, some}
 use native.Mathlib.Omega.{arith}
-use lib.Dec.{T, ltb, ltb→lt, eqb, eqb→eq}
+use lib.Dec.{T, ltb, ltb→lt}
 use Rattle.text.specs.Text.{Text, raw, bytes, flat, decimalOf}
 use Rattle.text.specs.Format.{same}
 use Rattle.values.specs.Entries.{isDigit, continuesName}
@@ -15,7 +15,7 @@ use Rattle.shader.specs.Names.{Token, word, mark, tokens, follows, start
 use Rattle.shader.specs.Demand.{sameName}
 use Rattle.shader.proofs.Names.Truth.{true-of, false-of, and-fst, and-snd, both, inr, below, below-at, cond-cases}
 use Rattle.shader.proofs.Names.Scan.{scan, breaks, letters, matters, ended, tokens-append, tokens-letters}
-use Rattle.shader.proofs.Names.Check.{Aim, Known, Holds}
+use Rattle.shader.proofs.Names.Check.{Aim, Known, Holds, same→eq}
 use Rattle.shader.proofs.Names.Frag.{Frag}
 
 -- a word, where it ends
@@ -29,10 +29,7 @@ names n (some m) = sameName n m
 
 names→eq : (n : Name) (o : Option Name) → T (names n o) → o ≡ some n
 names→eq n none t = absurd t
-names→eq (name k i) (some (name m j)) t =
-    let p : k ≡ m = eqb→eq k m (and-fst (eqb k m) (eqb i j) t) in
-    let q : i ≡ j = eqb→eq i j (and-snd (eqb k m) (eqb i j) t) in
-    cc
+names→eq n (some m) t = ap some (sym (same→eq n m t))
 
 abbrev pub isWordOf : List Token → Name → List ℕ → Bool
 isWordOf b n w = (letters w && not (startsDigit w)) && (names n (listed w) && (not (same (bytes "ps_c") w) && not (matters (word w ∷ b))))

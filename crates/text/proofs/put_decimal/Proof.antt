@@ -19,7 +19,8 @@ returns-3 c =
     let t1 = t2 .before in
     let one : t1 .before .before .args .n / 10 / 10 < 10 = omega arith in
     pick-false (le-ltb _ _ (t1 .if1 .left))
-    (pick-false (le-ltb _ _ (t2 .if2 .left)) (pick-true (lt-ltb _ _ one) (one-digit _ one (s1 .put-digit4 .ensures .written)) ⨾ s2 .put-digit5 .ensures .written)
+    (pick-false (le-ltb _ _ (t2 .if2 .left))
+    (pick-true (lt-ltb _ _ one) (one-digit _ one (s1 .put-digit4 .ensures .written)) ⨾ s2 .put-digit5 .ensures .written)
     ⨾ s3 .put-digit6 .ensures .written)
 
 pub put-decimal-spec : {M : Type 1} → statement M

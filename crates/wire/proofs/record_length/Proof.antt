@@ -1,4 +1,5 @@
-use Rattle.wire.proofs.Laws.{body-short}
+-- A body is short, so that one more byte still fits a `usize`.
+use Rattle.wire.proofs.Bodies.{body-short}
 use native.Mathlib.Omega.{arith}
 use borrow.Author.Needs.{needs}
 use Rattle.wire.proofs.record_length.Statement.{statement}

@@ -1,22 +1,26 @@
 //! `compare [SEED [COUNT]]`: yuzuknoll_emit beside the Rust, on the systematic triples and COUNT random ones.
 //!
-//! Each accepted triple goes into four buffers: as long as its text, one byte shorter, longer, and of no byte (or any shorter one). Refused triples
-//! and damaged parts stand among the random ones. Every byte of the buffer is compared, in front of it and behind it too, with a pattern that the
-//! buffer holds before the call. Prints the counts and the first differences; the exit status is 1 if there is any.
+//! Each accepted triple goes into four buffers: as long as its text, one byte shorter, longer, and of no byte (or any shorter one). Refused triples,
+//! and keys, variants and entries of any bytes, stand among the random ones. Every byte of the buffer is compared, in front of it and behind it too,
+//! with a pattern that the buffer holds before the call, and every number of the result with those that it holds before.
+//!
+//! First the comparison is shown to fail: wrong functions are put in the place of the archive's, and each must be found. Prints the counts and the
+//! first differences; the exit status is 1 if there is any, or if a wrong function passes.
 
 use std::process::ExitCode;
 
-use beside::{Lent, Records, emitted, refused};
+use beside::{Answer, Bodies, Lent, Report, emitted};
 use oraclelib::{
     emit,
     generate::{self, Rng},
-    records::{Kind, Refusal, Triple},
+    records::{Refusal, TRIPLE, Triple},
 };
-use yuzuknoll::packed;
+use yuzuknoll::{TEXT_LENGTH, raw::Emitted};
 
 const SEED: u64 = 1;
 const COUNT: u64 = 20_000;
-const TEXT: usize = 16_384;
+/// Random triples that each wrong function is given, always the same.
+const SELF_TEST: u64 = 500;
 /// How many differences are printed.
 const SHOWN: u64 = 10;
 
@@ -27,22 +31,27 @@ fn main() -> ExitCode {
         .collect();
     let seed = args.first().copied().unwrap_or(SEED);
     let count = args.get(1).copied().unwrap_or(COUNT);
-    let mut run = Run::new(seed);
+    let missed: Vec<Wrong> = Wrong::ALL
+        .into_iter()
+        .filter(|wrong| !found(*wrong))
+        .collect();
+    println!(
+        "compare: {} wrong functions tried, {} not found{}",
+        Wrong::ALL.len(),
+        missed.len(),
+        missed
+            .iter()
+            .map(|wrong| format!(", {wrong:?}"))
+            .collect::<String>()
+    );
+    let mut run = Run::new(&Archive, seed);
     for triple in generate::systematic() {
         run.accepted(&triple);
     }
     let systematic = run.triples;
-    for n in 0..count {
-        let triple = generate::triple(&mut run.rng);
-        run.accepted(&triple);
-        // Beside each, one that is refused.
-        match n % 4 {
-            0..3 => run.bad_value(triple),
-            _ => run.bad_part(&triple),
-        }
-    }
+    run.random(count);
     println!(
-        "compare: seed {seed}: {systematic} systematic and {} random triples, {} of them in a buffer of their length, as many one byte short, as many longer, as many of no byte or few",
+        "seed {seed}: {systematic} systematic and {} random triples, {} of them in a buffer of their length, as many one byte short, as many longer, as many of no byte or few",
         run.triples - systematic,
         run.triples,
     );
@@ -51,29 +60,24 @@ fn main() -> ExitCode {
         "{} calls, {} bytes of text, {} bytes of buffers, {} differences",
         run.calls, run.text, run.bytes, run.differences
     );
-    ExitCode::from(u8::from(run.differences != 0))
+    ExitCode::from(u8::from(run.differences != 0 || !missed.is_empty()))
 }
 
-/// The three parts of a call, of any length.
-#[derive(Clone, Debug, PartialEq, Eq)]
-struct Parts {
-    key: Vec<u8>,
-    variant: Vec<u8>,
-    entry: Vec<u8>,
+/// The function, or another in its place.
+trait Emit {
+    fn emit(&self, bodies: &Bodies, text: &mut [u8], result: &mut Emitted) -> u64;
 }
 
-impl Parts {
-    fn of(triple: &Triple) -> Self {
-        let records = Records::of(triple);
-        Self {
-            key: records.key.to_vec(),
-            variant: records.variant.to_vec(),
-            entry: records.entry.to_vec(),
-        }
+struct Archive;
+
+impl Emit for Archive {
+    fn emit(&self, bodies: &Bodies, text: &mut [u8], result: &mut Emitted) -> u64 {
+        bodies.emit(text, result)
     }
 }
 
-struct Run {
+struct Run<'a> {
+    function: &'a dyn Emit,
     rng: Rng,
     out: Lent,
     triples: u64,
@@ -82,11 +86,13 @@ struct Run {
     bytes: usize,
     refused: [u64; 10],
     differences: u64,
+    shown: u64,
 }
 
-impl Run {
-    fn new(seed: u64) -> Self {
+impl<'a> Run<'a> {
+    fn new(function: &'a dyn Emit, seed: u64) -> Self {
         Self {
+            function,
             rng: Rng::new(seed),
             out: Lent::new(),
             triples: 0,
@@ -95,18 +101,31 @@ impl Run {
             bytes: 0,
             refused: [0; 10],
             differences: 0,
+            shown: SHOWN,
+        }
+    }
+
+    /// Random triples, and beside each one that is refused, or one of any bytes.
+    fn random(&mut self, count: u64) {
+        for n in 0..count {
+            let triple = generate::triple(&mut self.rng);
+            self.accepted(&triple);
+            match n % 4 {
+                0..3 => self.bad_value(triple),
+                _ => self.any_bytes(&triple),
+            }
         }
     }
 
     /// A triple that is free of causes, in buffers of several lengths.
     fn accepted(&mut self, triple: &Triple) {
         let o = emit(triple);
-        let accepted = emitted(&o);
-        let too_long = refused(Refusal::LongText);
+        let accepted = Ok(emitted(&o));
+        let too_long = Err(Refusal::LongText);
         let text = o.text.as_bytes();
-        let parts = Parts::of(triple);
+        let bodies = Bodies::of(triple);
         let longer = if self.rng.one_in(2) {
-            TEXT.max(text.len())
+            TEXT_LENGTH.max(text.len())
         } else {
             text.len() + 1 + self.rng.below(300)
         };
@@ -117,10 +136,10 @@ impl Run {
         };
         self.triples += 1;
         self.text += 2 * text.len();
-        self.call(&parts, text.len(), accepted, text);
-        self.call(&parts, text.len() - 1, too_long, &[]);
-        self.call(&parts, longer, accepted, text);
-        self.call(&parts, few, too_long, &[]);
+        self.call(&bodies, text.len(), accepted, text);
+        self.call(&bodies, text.len() - 1, too_long, &[]);
+        self.call(&bodies, longer, accepted, text);
+        self.call(&bodies, few, too_long, &[]);
     }
 
     /// A triple with a cause of 3, 4, 5 or 6, or several.
@@ -145,67 +164,72 @@ impl Run {
                 _ => triple.entry.bytes[rng.below(32)] = rng.pick(b" .-/:@[`{\x01\x80\xff"),
             }
         }
-        let Some(cause) = triple.cause() else {
-            return;
-        };
-        let length = self.rng.pick(&[0, 100, 3_000, TEXT]);
-        self.call(&Parts::of(&triple), length, refused(cause), &[]);
+        if triple.cause().is_some() {
+            self.refused(&triple);
+        }
     }
 
-    /// A part of another length, or with another kind byte; perhaps with a cause in its body too.
-    fn bad_part(&mut self, triple: &Triple) {
+    /// A key, a variant or an entry of any bytes; of a key and a variant sometimes without those that are refused.
+    fn any_bytes(&mut self, triple: &Triple) {
         let rng = &mut self.rng;
-        let mut parts = Parts::of(triple);
-        let place = rng.below(3);
-        let (part, kind) = match place {
-            0 => (&mut parts.key, Kind::Key),
-            1 => (&mut parts.variant, Kind::Variant),
-            _ => (&mut parts.entry, Kind::Entry),
-        };
-        if rng.one_in(4) {
-            let last = part.len() - 1;
-            part[last] = 0xff;
-        }
-        let mut refusal = Refusal::Cut;
-        match rng.below(4) {
-            0 => part.truncate(0),
-            1 => {
-                let keep = 1 + rng.below(part.len() - 1);
-                part.truncate(keep);
-            }
-            2 => {
-                let more = 1 + rng.below(80);
-                part.extend((0..more).map(|n| n as u8));
+        let bytes: Vec<u8> = (0..TRIPLE).map(|_| rng.byte()).collect();
+        let any = Triple::from_bodies(&bytes);
+        let mut triple = *triple;
+        match rng.below(5) {
+            0 => triple.key = any.key,
+            1 => triple.variant = any.variant,
+            2 => triple.entry = any.entry,
+            3 => {
+                triple.key = any.key;
+                triple.key.specular %= 2;
+                for stage in &mut triple.key.stages {
+                    stage.flags %= 4;
+                }
             }
             _ => {
-                // 01: kind comes before length
-                if rng.one_in(2) {
-                    part.push(0);
-                }
-                while part[0] == kind as u8 {
-                    part[0] = rng.pick(&[0, 1, 2, 3, 4, 5, 255]);
-                }
-                refusal = Refusal::Kind;
+                triple.variant = any.variant;
+                triple.variant.flags %= 64;
             }
         }
-        let length = self.rng.pick(&[0, 3_000, TEXT]);
-        self.call(&parts, length, refused(refusal), &[]);
+        if triple.cause().is_some() {
+            self.refused(&triple);
+        } else {
+            self.accepted(&triple);
+        }
+    }
+
+    /// A triple with a cause, in a buffer of some length.
+    fn refused(&mut self, triple: &Triple) {
+        let length = self.rng.pick(&[0, 100, 3_000, TEXT_LENGTH]);
+        let cause = triple.cause().expect("a cause");
+        self.call(&Bodies::of(triple), length, Err(cause), &[]);
     }
 
     /// One call with a buffer of a length, and what must come of it.
-    fn call(&mut self, parts: &Parts, length: usize, answer: u64, text: &[u8]) {
-        self.out.fill(length, self.rng.byte());
+    fn call(
+        &mut self,
+        bodies: &Bodies,
+        length: usize,
+        result: Result<Emitted, Refusal>,
+        text: &[u8],
+    ) {
+        let start = self.rng.byte();
+        self.out.fill(length, start);
         self.out.expect(0, text);
-        let before = parts.clone();
-        let got = packed::emit(&parts.key, &parts.variant, &parts.entry, self.out.buffer());
+        let before = Emitted::filled(start);
+        let expected = Answer::of(result, before);
+        let mut report = before;
+        let lent = *bodies;
+        let number = self.function.emit(&lent, self.out.buffer(), &mut report);
+        let got = Answer { number, report };
         self.calls += 1;
         self.bytes += length;
-        self.refused[(answer & 255) as usize] += 1;
-        if got != answer || !self.out.as_expected() || *parts != before {
+        self.refused[expected.number as usize] += 1;
+        if got != expected || !self.out.as_expected() || lent != *bodies {
             self.differences += 1;
-            if self.differences <= SHOWN {
-                println!("difference: {parts:02x?}, a buffer of {length} bytes");
-                println!("  expected {answer:#018x}, got {got:#018x}");
+            if self.differences <= self.shown {
+                println!("difference: {bodies:02x?}, a buffer of {length} bytes");
+                println!("  expected {expected:?}, got {got:?}");
                 println!("  the buffer {}", self.out.difference());
             }
         }
@@ -213,11 +237,102 @@ impl Run {
 
     /// How many calls had to be refused, by number.
     fn refusals(&self) -> String {
-        let numbers = [1, 2, 3, 4, 5, 6, 8];
+        let numbers = [3, 4, 5, 6, 8];
         numbers
             .iter()
             .map(|&n: &usize| format!(" {n}: {}", self.refused[n]))
             .collect::<Vec<_>>()
             .join(",")
+    }
+}
+
+/// What a wrong function does.
+#[derive(Clone, Copy, Debug)]
+enum Wrong {
+    Answers4Before3,
+    Answers5Before4,
+    Answers6Before5,
+    Answers8First,
+    PassesSpecular,
+    RefusesAnExactFit,
+    ClearsTheByteBehind,
+    WritesOnRefusal,
+    WritesAnotherByte,
+    ReportsOnRefusal,
+    ReportsTheRoom,
+    ReportsTheMaskAsLookups,
+    DropsTheRows,
+    DropsTheWarning,
+}
+
+impl Wrong {
+    const ALL: [Self; 14] = [
+        Self::Answers4Before3,
+        Self::Answers5Before4,
+        Self::Answers6Before5,
+        Self::Answers8First,
+        Self::PassesSpecular,
+        Self::RefusesAnExactFit,
+        Self::ClearsTheByteBehind,
+        Self::WritesOnRefusal,
+        Self::WritesAnotherByte,
+        Self::ReportsOnRefusal,
+        Self::ReportsTheRoom,
+        Self::ReportsTheMaskAsLookups,
+        Self::DropsTheRows,
+        Self::DropsTheWarning,
+    ];
+}
+
+/// Whether the comparison finds a wrong function.
+fn found(wrong: Wrong) -> bool {
+    let mut run = Run::new(&wrong, SEED);
+    run.shown = 0;
+    run.random(SELF_TEST);
+    run.differences != 0
+}
+
+impl Emit for Wrong {
+    fn emit(&self, bodies: &Bodies, text: &mut [u8], result: &mut Emitted) -> u64 {
+        let [.., specular, _] = bodies.key;
+        let [.., flags] = bodies.variant;
+        let (specular_bad, flags_bad) = (specular > 1, flags > 63);
+        if let Self::PassesSpecular = self {
+            let mut passed = *bodies;
+            passed.key[56] %= 2;
+            return Archive.emit(&passed, text, result);
+        }
+        let mut wanted = *result;
+        let number = Archive.emit(bodies, text, &mut wanted);
+        let length = wanted.length as usize;
+        match self {
+            Self::Answers4Before3 if number == 3 && specular_bad => return 4,
+            Self::Answers5Before4 if number == 4 && flags_bad => return 5,
+            Self::Answers6Before5 if number == 5 && bodies.entry[0] == 0 => return 6,
+            Self::Answers8First if number != 0 && text.is_empty() => return 8,
+            Self::RefusesAnExactFit if number == 0 && text.len() == length => return 8,
+            Self::WritesOnRefusal if number != 0 => spoil(text.last_mut()),
+            Self::ReportsOnRefusal if number != 0 => wanted.warning = 0,
+            _ => {}
+        }
+        if number == 0 {
+            match self {
+                Self::ClearsTheByteBehind => spoil(text.get_mut(length)),
+                Self::WritesAnotherByte => spoil(text.get_mut(length - 1)),
+                Self::ReportsTheRoom => wanted.length = text.len() as u64,
+                Self::ReportsTheMaskAsLookups => wanted.lookups = wanted.mask.count_ones().into(),
+                Self::DropsTheRows => wanted.rows = 0,
+                Self::DropsTheWarning => wanted.warning = 0,
+                _ => {}
+            }
+        }
+        *result = wanted;
+        number
+    }
+}
+
+fn spoil(byte: Option<&mut u8>) {
+    if let Some(byte) = byte {
+        *byte ^= 1;
     }
 }

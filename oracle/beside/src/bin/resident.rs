@@ -6,13 +6,16 @@
 
 use std::{process::ExitCode, time::Instant};
 
-use beside::{Records, applied, emitted};
+use beside::{Bodies, emitted, length};
 use oraclelib::{
     emit,
     generate::{self, Rng},
-    records::{Entry, Key, Kind, Triple, Variant},
+    records::{Kind, Triple},
 };
-use yuzuknoll::{HELD_LENGTH, TEXT_LENGTH, packed};
+use yuzuknoll::{
+    TEXT_LENGTH,
+    raw::{self, Applied, Emitted, HELD_LENGTH},
+};
 
 const SEED: u64 = 1;
 const COUNT: u64 = 100_000_000;
@@ -60,12 +63,26 @@ fn resident_kilobytes() -> u64 {
     number.and_then(|n| n.parse().ok()).expect("VmRSS in kB")
 }
 
+/// A triple, as the Rust, yuzuknoll_emit and yuzuknoll_apply take it.
+struct Pooled {
+    triple: Triple,
+    bodies: Bodies,
+    records: Vec<u8>,
+}
+
+impl Pooled {
+    fn of(triple: Triple) -> Self {
+        Self {
+            triple,
+            bodies: Bodies::of(&triple),
+            records: triple.records(),
+        }
+    }
+}
+
 struct Run {
     rng: Rng,
-    keys: Vec<Key>,
-    variants: Vec<Variant>,
-    entries: Vec<Entry>,
-    records: Vec<Records>,
+    pool: Vec<Pooled>,
     held: [u8; HELD_LENGTH],
     buffer: [u8; TEXT_LENGTH],
     done: u64,
@@ -85,13 +102,10 @@ fn triple(rng: &mut Rng) -> Triple {
 impl Run {
     fn new(seed: u64) -> Self {
         let mut rng = Rng::new(seed);
-        let triples: Vec<Triple> = (0..POOL).map(|_| triple(&mut rng)).collect();
+        let pool = (0..POOL).map(|_| Pooled::of(triple(&mut rng))).collect();
         Self {
             rng,
-            keys: triples.iter().map(|t| t.key).collect(),
-            variants: triples.iter().map(|t| t.variant).collect(),
-            entries: triples.iter().map(|t| t.entry).collect(),
-            records: triples.iter().map(Records::of).collect(),
+            pool,
             held: [0; HELD_LENGTH],
             buffer: [0; TEXT_LENGTH],
             done: 0,
@@ -108,14 +122,15 @@ impl Run {
             }
             let bits = self.rng.next_u64() as usize;
             let at = [bits % POOL, bits / POOL % POOL, bits / (POOL * POOL) % POOL];
-            let answer = self.emission(at);
-            self.text += answer >> 40 & 0xffff;
-            if answer & 255 != 0 {
-                self.differs(&format!("refused {answer}"));
-            }
-            // One in a thousand, by turns of either function.
-            if self.done % COMPARED == self.done / COMPARED % 2 {
-                self.compare(at, answer);
+            match self.emission(at) {
+                Err(number) => self.differs(&format!("refused {number}")),
+                Ok(result) => {
+                    self.text += result.length;
+                    // One in a thousand, by turns of either function.
+                    if self.done % COMPARED == self.done / COMPARED % 2 {
+                        self.compare(at, result);
+                    }
+                }
             }
             self.done += 1;
         }
@@ -125,43 +140,56 @@ impl Run {
     fn renew(&mut self) {
         let new = triple(&mut self.rng);
         let at = self.rng.below(POOL);
-        self.keys[at] = new.key;
-        self.variants[at] = new.variant;
-        self.entries[at] = new.entry;
-        self.records[at] = Records::of(&new);
+        self.pool[at] = Pooled::of(new);
     }
 
-    /// The key, variant and entry at these places of the pools.
-    fn emission(&mut self, [key, variant, entry]: [usize; 3]) -> u64 {
-        let key = &self.records[key].key;
-        let variant = &self.records[variant].variant;
-        let entry = &self.records[entry].entry;
+    /// The result for the key, variant and entry at these places of the pool, or the number of a refusal.
+    fn emission(&mut self, at: [usize; 3]) -> Result<Emitted, u64> {
         if self.done.is_multiple_of(2) {
-            return packed::emit(key, variant, entry, &mut self.buffer);
+            self.by_emit(at)
+        } else {
+            self.by_apply(at)
         }
-        for record in [&key[..], variant, entry] {
-            let answer = packed::apply(&mut self.held, record, &mut []);
-            if answer & 255 != 0 {
-                return answer;
-            }
-        }
-        packed::apply(&mut self.held, &[Kind::Emit as u8], &mut self.buffer)
     }
 
-    fn compare(&mut self, [key, variant, entry]: [usize; 3], answer: u64) {
+    fn by_emit(&mut self, [key, variant, entry]: [usize; 3]) -> Result<Emitted, u64> {
+        let mut result = Emitted::default();
+        let number = raw::emit(
+            &self.pool[key].bodies.key,
+            &self.pool[variant].bodies.variant,
+            &self.pool[entry].bodies.entry,
+            &mut self.buffer,
+            &mut result,
+        );
+        accepted(number).map(|()| result)
+    }
+
+    fn by_apply(&mut self, [key, variant, entry]: [usize; 3]) -> Result<Emitted, u64> {
+        const VARIANT: usize = length(Kind::Key);
+        const ENTRY: usize = VARIANT + length(Kind::Variant);
+        let records = [
+            &self.pool[key].records[..VARIANT],
+            &self.pool[variant].records[VARIANT..ENTRY],
+            &self.pool[entry].records[ENTRY..],
+        ];
+        let mut done = Applied::default();
+        for record in records {
+            accepted(raw::apply(&mut self.held, record, &mut [], &mut done))?;
+        }
+        let emit = [Kind::Emit as u8];
+        let number = raw::apply(&mut self.held, &emit, &mut self.buffer, &mut done);
+        accepted(number).map(|()| done.result)
+    }
+
+    fn compare(&mut self, [key, variant, entry]: [usize; 3], result: Emitted) {
         let outcome = emit(&Triple {
-            key: self.keys[key],
-            variant: self.variants[variant],
-            entry: self.entries[entry],
+            key: self.pool[key].triple.key,
+            variant: self.pool[variant].triple.variant,
+            entry: self.pool[entry].triple.entry,
         });
-        let expected = if self.done.is_multiple_of(2) {
-            emitted(&outcome)
-        } else {
-            applied(Kind::Emit, Some(&outcome))
-        };
         self.compared += 1;
-        if answer != expected || !self.buffer.starts_with(outcome.text.as_bytes()) {
-            self.differs("another answer or text");
+        if result != emitted(&outcome) || !self.buffer.starts_with(outcome.text.as_bytes()) {
+            self.differs("another result or text");
         }
     }
 
@@ -170,5 +198,13 @@ impl Run {
         if self.differences <= 10 {
             println!("difference at emission {}: {what}", self.done);
         }
+    }
+}
+
+/// What a call returned.
+const fn accepted(number: u64) -> Result<(), u64> {
+    match number {
+        0 => Ok(()),
+        number => Err(number),
     }
 }

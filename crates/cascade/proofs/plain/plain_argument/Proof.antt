@@ -1,6 +1,7 @@
-use Rattle.cascade.proofs.PlainStages.{selected, known}
+-- Its selector is none of the three and below the unknown ones, and it has no modifier that is unknown.
+use Rattle.cascade.proofs.PlainStages.{plain-argument}
 use Rattle.cascade.proofs.plain.plain_argument.Statement.{statement}
 use Rattle.cascade.proofs.plain.plain_argument.Tie as tie
 
 pub plain-argument-spec : {M : Type 1} → statement M
-plain-argument-spec = tie.close (tie.spec (λ c. (λ e. selected (c .args .arg) e, λ e. known (c .args .arg) e)))
+plain-argument-spec = tie.close (tie.spec (λ c. plain-argument (c .args .arg)))

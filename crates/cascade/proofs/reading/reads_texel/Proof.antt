@@ -1,3 +1,4 @@
+-- Colour is asked first; alpha only where colour reads none, and whether it is written only where it would read one.
 use mathlib.Core.Path.{sym, _∙_}
 use borrow.Author.Tests.{not-true}
 use Rattle.cascade.specs.Reading.{readsTexel}
@@ -7,24 +8,34 @@ use Rattle.cascade.proofs.reading.reads_texel.Tie as tie
 
 returns : tie.Need-returns
 unfolding readsTexel
-returns c = rw (← c .before .before .textured .ensures, sym (c .before .reads-texel-by .ensures) ∙ c .if1 .taken)
+returns c = let colour = c .before in rw (← colour .before .textured .ensures, sym (colour .reads-texel-by .ensures) ∙ c .if1 .taken)
 
 returns-2 : tie.Need-returns-2
 unfolding readsTexel
-returns-2 c = let s1 = c .before .before in rw (← s1 .before .before .textured .ensures, sym (s1 .before .reads-texel-by .ensures) ∙ s1 .if1 .left, sym (c .before .reads-texel-by2 .ensures) ∙ not-true _ (c .if2 .taken), and-false)
+returns-2 c =
+    let alpha = c .before in
+    let no = alpha .before in
+    let colour = no .before in
+    rw (
+      ← colour .before .textured .ensures,
+      sym (colour .reads-texel-by .ensures) ∙ no .if1 .left,
+      sym (alpha .reads-texel-by2 .ensures) ∙ not-true _ (c .if2 .taken),
+      and-false,
+    )
 
 returns-3 : tie.Need-returns-3
 unfolding readsTexel
-returns-3 c = let s2 = c .before .before in let s1 = s2 .before in rw (← s1 .before .before .textured .ensures, sym (s1 .before .reads-texel-by .ensures) ∙ s1 .if1 .left, c .alpha-written .ensures, s2 .reads-texel-by2 .ensures)
+returns-3 c =
+    let alpha = c .before .before in
+    let no = alpha .before in
+    let colour = no .before in
+    rw (
+      ← colour .before .textured .ensures,
+      sym (colour .reads-texel-by .ensures) ∙ no .if1 .left,
+      c .alpha-written .ensures,
+      alpha .reads-texel-by2 .ensures,
+    )
 
 pub reads-texel-spec : {M : Type 1} → statement M
 reads-texel-spec =
-    tie.close
-    (tie.spec
-    (λ c κs. tt)
-    (λ c κs. tt)
-    returns
-    (λ c κs. tt)
-    returns-2
-    (λ c κs. tt)
-    returns-3)
+    tie.close (tie.spec (λ c κs. tt) (λ c κs. tt) returns (λ c κs. tt) returns-2 (λ c κs. tt) returns-3)

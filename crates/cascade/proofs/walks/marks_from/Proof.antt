@@ -1,16 +1,15 @@
-use Prim.Native.Nat.{_≤_, _+_, _-_}
+-- The walk goes from the last active stage to the first: at stage i the marks are those of the stages from i on.
 use mathlib.Core.Path.{_≡_, sym, _∙_}
 use native.Mathlib.Omega.{arith}
-use lib.ListN.{length, drop, length-map}
-use Rattle.cascade.specs.Keys.{active, activeCount}
+use lib.ListN.{drop, length-map}
+use Rattle.cascade.specs.Keys.{active}
 use Rattle.cascade.specs.Walks.{marksFrom}
-use Rattle.cascade.proofs.Rest.{marks-none, marks-more, marks-few}
-use Rattle.cascade.proofs.Active.{count-le}
+use Rattle.cascade.proofs.Walking.{Walk, begin, down, marks-none, marks-more, few-marks}
 use Rattle.cascade.proofs.walks.marks_from.Statement.{statement}
 use Rattle.cascade.proofs.walks.marks_from.Tie as tie
 
 abbrev Inv-loop : tie.InvT-loop
-Inv-loop n alive k m₀ i₀ m i = (i ≤ n) × (n ≤ 8) × (n ≡ activeCount (k .stages)) × (length (k .stages) ≡ 8) × (m ≡ marksFrom alive (drop i (active (k .stages))))
+Inv-loop n alive k m₀ i₀ m i = Walk (k .stages) n i × (m ≡ marksFrom alive (drop i (active (k .stages))))
 
 abbrev μ-loop : tie.MeasureT-loop
 μ-loop n alive k m₀ i₀ m i = i
@@ -18,49 +17,21 @@ abbrev μ-loop : tie.MeasureT-loop
 loop-holds : tie.Need-loop-holds Inv-loop μ-loop
 loop-holds c =
     let l = c .args .t1 .stages in
-    let e : length l ≡ 8 = sym (length-map l _) ∙ c .good .0 .1 .1 .0 .1 .0 .1 in
-    (omega arith, omega (arith, count-le l, c .pre), c .pre, e, marks-none (c .args .alive) l (c .args .n) (c .pre))
-
-sub-i : tie.Need-sub-i Inv-loop μ-loop
-sub-i c = omega arith
-
-mul-s : tie.Need-mul-s Inv-loop μ-loop
-mul-s c = omega (arith, c .before .loop .inv .0)
-
-element-copy-out-s : tie.Need-element-copy-out-s Inv-loop μ-loop
-element-copy-out-s c = omega (arith, c .before .loop .inv .0)
+    (begin l _ (c .pre) (sym (length-map l _) ∙ c .good .0 .1 .1 .0 .1 .0 .1), marks-none (c .args .alive) l _ (c .pre))
 
 add-mark-requires : tie.Need-add-mark-requires Inv-loop μ-loop
-add-mark-requires c κs =
-    let b = c .before .before in
-    let l = b .before .args .t1 .stages in
-    marks-few (b .before .args .alive) l (b .loop .i) _ (b .loop .inv .4) (omega arith) (b .loop .inv .3)
-
-loop-less : tie.Need-loop-less Inv-loop μ-loop
-loop-less c = omega arith
+add-mark-requires c κs = let b = c .before .before in few-marks _ _ _ (b .loop .inv .0) (omega arith) _ _ (b .loop .inv .1)
 
 loop-again : tie.Need-loop-again Inv-loop μ-loop
 loop-again c =
     let b = c .before .before .before in
-    let l = b .before .args .t1 .stages in
-    let j = b .loop .i - 1 in
-    let e : b .loop .i ≡ j + 1 = omega arith in
-    (omega arith, b .loop .inv .1, b .loop .inv .2, b .loop .inv .3, marks-more (b .before .args .alive) l j _ _ _ (omega arith) (rw e at (b .loop .inv .4)) (c .add-mark .ensures))
+    let w = b .loop .inv .0 in
+    (down _ _ _ w, marks-more _ _ _ _ w (omega arith) _ _ _ (b .loop .inv .1) (c .add-mark .ensures))
 
 returns : tie.Need-returns Inv-loop μ-loop
-returns c = let e : c .before .loop .i ≡ 0 = omega arith in rw e at (c .before .loop .inv .4)
+returns c = let b = c .before in let e : b .loop .i ≡ 0 = omega arith in rw e at (b .loop .inv .1)
 
 pub marks-from-spec : {M : Type 1} → statement M
 marks-from-spec =
-    tie.close
-    (tie.spec
-    Inv-loop
-    μ-loop
-    loop-holds
-    sub-i
-    mul-s
-    element-copy-out-s
-    add-mark-requires
-    loop-less
-    loop-again
-    returns)
+    let steps = tie.spec Inv-loop μ-loop loop-holds (λ c. omega arith) (λ c. omega arith) (λ c. omega arith) in
+    tie.close (steps add-mark-requires (λ c. omega arith) loop-again returns)

@@ -1,3 +1,4 @@
+-- The source is what `source_of` answers for the selector; the modifiers are the bits that `argOf` tests.
 use Rattle.combiners.proofs.arguments.arg_of.Statement.{statement}
 use Rattle.combiners.proofs.arguments.arg_of.Tie as tie
 
@@ -6,4 +7,4 @@ arg-of-spec =
     tie.close
     (tie.spec
     (λ c κs. tt)
-    (λ c. cc))
+    (λ c. rw (c .source-of .ensures)))

@@ -1,3 +1,4 @@
+-- A complemented argument is the replicated one between `(1.0 - ` and `)`; another is the replicated one alone.
 use Rattle.text.proofs.Laws.{texts}
 use Rattle.combiners.specs.Arguments.{argText}
 use Rattle.combiners.proofs.arguments.put_arg.Statement.{statement}

@@ -1,4 +1,4 @@
-use borrow.Author.Needs.{needs}
+-- The text of the source, and `.aaaa` behind it where the alpha is replicated.
 use Rattle.text.proofs.Laws.{texts}
 use Rattle.combiners.specs.Arguments.{replicated}
 use Rattle.combiners.proofs.arguments.put_replicated.Statement.{statement}

@@ -1,3 +1,4 @@
+-- The five pieces in the order of `formText`.
 use Rattle.text.proofs.Laws.{_⨾_, keeps}
 use Rattle.expressions.proofs.combine.put_both.Statement.{statement}
 use Rattle.expressions.proofs.combine.put_both.Tie as tie
@@ -9,7 +10,7 @@ returns c =
     let s3 = s4 .before .before .before .before in
     let s2 = s3 .before .before .before .before in
     let s1 = s2 .before .before .before .before in
-    s1 .put-open .ensures ⨾ s2 .put-arg .ensures ⨾ s3 .put-middle .ensures ⨾ s4 .put-arg2 .ensures ⨾ s5 .put-close .ensures
+    s1 .put-opening .ensures ⨾ s2 .put-arg .ensures ⨾ s3 .put-joining .ensures ⨾ s4 .put-arg2 .ensures ⨾ s5 .put-ending .ensures
 
 pub put-both-spec : {M : Type 1} → statement M
 put-both-spec =

@@ -1,3 +1,4 @@
+-- What is written in the form of the operation is its expression, by the table's theorem.
 use Prim.Native.Nat.{ℕ}
 use mathlib.Core.Path.{_≡_}
 use mathlib.Core.List.{List}
@@ -10,8 +11,15 @@ use Rattle.expressions.proofs.Table.{in-form}
 use Rattle.expressions.proofs.combine.put_expression.Statement.{statement}
 use Rattle.expressions.proofs.combine.put_expression.Tie as tie
 
-of : (i : ℕ) (t u : Text) (x y : Form) (l l′ : List ℕ) (a a′ : ℕ) → x ≡ y → Wrote l a l′ a′ (formText i t u y) → Wrote l a l′ a′ (formText i t u x)
-of i t u = case (formText i t u)
+module _ (i : ℕ) (t u : Text) (x y : Form) (l l′ : List ℕ) (a a′ : ℕ) where
+  of : x ≡ y → Wrote l a l′ a′ (formText i t u y) → Wrote l a l′ a′ (formText i t u x)
+  of = case (formText i t u) x y l l′ a a′
+
+returns-3 : tie.Need-returns-3
+returns-3 c =
+    let s = c .before .before in
+    let told = s .before .before .before in
+    in-form _ _ _ _ (told .before .before .form-of .ensures) (of _ _ _ _ _ _ _ _ _ (told .form .given .1) (s .put-both .ensures))
 
 pub put-expression-spec : {M : Type 1} → statement M
 put-expression-spec =
@@ -29,4 +37,4 @@ put-expression-spec =
     (λ c. cc)
     (λ c. search (in-form, of))
     (λ c. cc)
-    (λ c. search (in-form, of)))
+    returns-3)

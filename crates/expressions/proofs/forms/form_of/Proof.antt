@@ -1,3 +1,4 @@
+-- Each arm answers its row of `formOf`.
 use Rattle.expressions.proofs.forms.form_of.Statement.{statement}
 use Rattle.expressions.proofs.forms.form_of.Tie as tie
 

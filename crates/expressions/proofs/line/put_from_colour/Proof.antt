@@ -1,3 +1,4 @@
+-- The register, the expression and the line's end are the line of a colour that writes all four channels.
 use Rattle.text.proofs.Laws.{_⨾_}
 use Rattle.expressions.proofs.Lines.{from-colour}
 use Rattle.expressions.proofs.line.put_from_colour.Statement.{statement}

@@ -1,3 +1,4 @@
+-- The register, the colour's expression and the register's own alpha are the line of a kept alpha.
 use Rattle.text.proofs.Laws.{_⨾_}
 use Rattle.expressions.proofs.Lines.{keeping}
 use Rattle.expressions.proofs.line.put_kept.Statement.{statement}

@@ -1,3 +1,4 @@
+-- The line by the kind of its alpha, as `lineText` has it.
 use Rattle.cascade.specs.Stages.{lineText}
 use Rattle.expressions.proofs.line.put_line.Statement.{statement}
 use Rattle.expressions.proofs.line.put_line.Tie as tie

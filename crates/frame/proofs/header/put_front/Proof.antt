@@ -1,3 +1,4 @@
+-- The struct, the helper and the line up to the entry, each by a flag of the variant.
 use Rattle.shader.specs.Whole.{varyingsText, srgbHelperText, fragmentText, frontText}
 use Rattle.frame.proofs.Parts.{picked, answered}
 use Rattle.frame.proofs.header.put_front.Statement.{statement}

@@ -1,8 +1,16 @@
+-- What stands before the colours, the colours by the flag, and what stands behind them.
 use mathlib.Core.Path.{refl}
 use Rattle.text.proofs.Laws.{_⨾_, same}
 use Rattle.frame.proofs.Parts.{varyings}
 use Rattle.frame.proofs.header.put_varyings.Statement.{statement}
 use Rattle.frame.proofs.header.put_varyings.Tie as tie
+
+returns : tie.Need-returns
+returns c =
+    let s3 = c .before .before in
+    let s2 = s3 .before .before .before .before .before in
+    let s1 = s2 .before .before .before .before .before .before in
+    same (varyings _) (s1 .put .ensures .written ⨾ s2 .put-either .ensures .written ⨾ s3 .put2 .ensures .written)
 
 pub put-varyings-spec : {M : Type 1} → statement M
 put-varyings-spec =
@@ -16,9 +24,4 @@ put-varyings-spec =
     (λ c. refl)
     (λ c κs. tt)
     (λ c. cc)
-    (λ c.
-    let c₁ = c .before .before in
-    let c₂ = c₁ .before .before .before .before .before in
-    let c₃ = c₂ .before .before .before .before .before .before in
-    let c₄ = c₃ .before .before .before .before in
-    same (varyings (c₄ .args .flat)) (c₃ .put .ensures .written ⨾ c₂ .put-either .ensures .written ⨾ c₁ .put2 .ensures .written)))
+    returns)

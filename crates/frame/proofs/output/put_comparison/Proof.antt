@@ -1,3 +1,4 @@
+-- The code that an arm matched settles the choices of `comparisonText`.
 use Rattle.text.proofs.Laws.{texts, same}
 use mathlib.Core.Path.{refl}
 use borrow.Author.Needs.{needs}

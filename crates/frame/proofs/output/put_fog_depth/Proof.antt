@@ -1,3 +1,4 @@
+-- One of two lines, by where the fog's depth comes from.
 use mathlib.Core.Path.{refl}
 use borrow.Author.Needs.{needs}
 use Rattle.shader.specs.Output.{fogDepthText}

@@ -1,3 +1,4 @@
+-- The two literals are the specular line, if it is there, and the line behind it.
 use mathlib.Core.Path.{refl}
 use Rattle.text.proofs.Laws.{same}
 use Rattle.frame.proofs.Parts.{highlit}
@@ -12,4 +13,4 @@ put-specular-spec =
     (λ c. refl)
     (λ c κs. tt)
     (λ c. cc)
-    (λ c. same (highlit (c .before .before .before .before .before .before .before .args .on)) (c .before .before .put-either .ensures .written)))
+    (λ c. same (highlit _) (c .before .before .put-either .ensures .written)))

@@ -1,3 +1,4 @@
+-- The line is there where the flag is set.
 use mathlib.Core.Path.{refl}
 use borrow.Author.Needs.{needs}
 use Rattle.shader.specs.Output.{srgbText}

@@ -1,12 +1,25 @@
-use Rattle.text.proofs.Laws.{_⨾_, pick-true, pick-false, nothing}
+-- Where the variant tests, the comparison stands between the two halves of the line; else nothing is written.
 use mathlib.Core.Path.{refl, sym, _∙_}
 use borrow.Author.Needs.{needs}
+use Rattle.text.proofs.Laws.{_⨾_, pick-true, pick-false, nothing}
 use Rattle.shader.specs.Output.{testText}
 use Rattle.frame.proofs.output.put_test.Statement.{statement}
 use Rattle.frame.proofs.output.put_test.Tie as tie
 
-pub put-test-spec : {M : Type 1} → statement M
+returns : tie.Need-returns
 unfolding testText
+returns c =
+    let s3 = c .before .before in
+    let s2 = s3 .before .before .before .before .before in
+    let s1 = s2 .before .before .before .before in
+    let t = s1 .before .before .before in
+    pick-true (sym (t .before .tested .ensures) ∙ t .if1 .taken) (s1 .put .ensures .written ⨾ s2 .put-comparison .ensures ⨾ s3 .put2 .ensures .written)
+
+returns-2 : tie.Need-returns-2
+unfolding testText
+returns-2 c = pick-false (sym (c .before .tested .ensures) ∙ c .if1 .left) (nothing _ _)
+
+pub put-test-spec : {M : Type 1} → statement M
 put-test-spec =
     tie.close
     (tie.spec
@@ -17,10 +30,5 @@ put-test-spec =
     (λ c. refl)
     (λ c κs. tt)
     (λ c. search needs)
-    (λ c.
-    let c₃ = c .before .before in
-    let c₂ = c₃ .before .before .before .before .before in
-    let c₁ = c₂ .before .before .before .before in
-    let t = c₁ .before .before .before in
-    pick-true (sym (t .before .tested .ensures) ∙ t .if1 .taken) (c₁ .put .ensures .written ⨾ c₂ .put-comparison .ensures ⨾ c₃ .put2 .ensures .written))
-    (λ c. pick-false (sym (c .before .tested .ensures) ∙ c .if1 .left) (nothing _ _)))
+    returns
+    returns-2)

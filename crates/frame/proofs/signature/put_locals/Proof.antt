@@ -1,3 +1,4 @@
+-- The two literals are the declaration of `current`, with that of `temp` behind it or without.
 use mathlib.Core.Path.{refl}
 use Rattle.text.proofs.Laws.{same}
 use Rattle.frame.proofs.Parts.{declared}
@@ -12,4 +13,4 @@ put-locals-spec =
     (λ c. refl)
     (λ c κs. tt)
     (λ c. cc)
-    (λ c. same (declared (c .before .before .before .before .before .before .before .args .alive)) (c .before .before .put-either .ensures .written)))
+    (λ c. same (declared _) (c .before .before .put-either .ensures .written)))

@@ -1,3 +1,4 @@
+-- A stage with a texture has the texture's parameter and the sampler's, by the type that the variant gives it.
 use mathlib.Core.Path.{refl}
 use native.Mathlib.Omega.{arith}
 use Rattle.text.proofs.Laws.{_⨾_, keeps, same, pick-true, pick-false, nothing}
@@ -17,10 +18,10 @@ pub put-sampler-spec : {M : Type 1} → statement M
 put-sampler-spec =
     tie.close
     (tie.spec
-    (λ c κs. c .before .before .before .pre)
-    (λ c κs. c .before .before .before .before .pre)
+    (λ c κs. tt)
+    (λ c κs. search)
     (λ c. refl)
-    (λ c κs. omega (arith, c .before .before .before .before .before .before .before .before .before .pre))
+    (λ c κs. omega arith)
     (λ c. keeps (returns c))
     returns
     (λ c. pick-false (c .if1 .left) (nothing _ _)))

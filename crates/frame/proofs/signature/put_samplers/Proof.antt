@@ -1,3 +1,4 @@
+-- The invariant: what the stages from i on still write makes, behind what is written, the parameters of all active stages.
 use Prim.Native.Nat.{_≤_, _-_}
 use mathlib.Core.Path.{_≡_, refl, sym, _∙_}
 use native.Mathlib.Omega.{arith}

@@ -1,3 +1,4 @@
+-- The two literals are the first parameters, with a point sprite's or without, and the constants behind them.
 use mathlib.Core.Path.{refl}
 use Rattle.text.proofs.Laws.{same}
 use Rattle.frame.proofs.Parts.{begins}
@@ -12,4 +13,4 @@ put-stage-in-spec =
     (λ c. refl)
     (λ c κs. tt)
     (λ c. cc)
-    (λ c. same (begins (c .before .before .before .before .before .before .before .args .sprite)) (c .before .before .put-either .ensures .written)))
+    (λ c. same (begins _) (c .before .before .put-either .ensures .written)))

@@ -1,3 +1,4 @@
+-- Each arm writes the parameter with the type that it matched.
 use mathlib.Core.Path.{refl}
 use native.Mathlib.Omega.{arith}
 use Rattle.text.proofs.Laws.{same}

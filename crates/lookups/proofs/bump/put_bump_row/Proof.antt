@@ -1,3 +1,4 @@
+-- The number in square brackets behind the name.
 use Rattle.text.proofs.Laws.{texts}
 use mathlib.Core.Path.{refl}
 use borrow.Author.Needs.{needs}

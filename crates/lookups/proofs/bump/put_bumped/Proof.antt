@@ -1,3 +1,4 @@
+-- Behind a textured bump stage the lookup reads the displaced coordinate; else its own.
 use Rattle.text.proofs.Laws.{texts}
 use borrow.Author.Needs.{needs}
 use Rattle.lookups.proofs.bump.put_bumped.Statement.{statement}

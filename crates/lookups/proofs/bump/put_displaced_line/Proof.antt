@@ -1,9 +1,22 @@
+-- The name, the coordinate moved, and its other two components.
 use mathlib.Core.Path.{refl}
 use native.Mathlib.Omega.{arith}
 use Rattle.text.proofs.Laws.{_⨾_, same}
 use Rattle.lookups.proofs.Lines.{displaces}
 use Rattle.lookups.proofs.bump.put_displaced_line.Statement.{statement}
 use Rattle.lookups.proofs.bump.put_displaced_line.Tie as tie
+
+returns : tie.Need-returns
+returns c =
+    let s5 = c .before .before in
+    let s4 = s5 .before .before .before .before .before in
+    let s3 = s4 .before .before .before .before in
+    let s2 = s3 .before .before .before .before .before in
+    let s1 = s2 .before .before .before .before in
+    let a = s1 .before .before .before .before .args in
+    same (displaces (a .i) (a .n) (a .base))
+    (s1 .put-numbered .ensures .written ⨾ s2 .put-moved .ensures ⨾ s3 .put .ensures .written ⨾ s4 .put-coordinate .ensures
+    ⨾ s5 .put2 .ensures .written)
 
 pub put-displaced-line-spec : {M : Type 1} → statement M
 put-displaced-line-spec =
@@ -18,12 +31,4 @@ put-displaced-line-spec =
     (λ c. refl)
     (λ c κs. tt)
     (λ c. cc)
-    (λ c.
-    let c₁ = c .before .before in
-    let c₂ = c₁ .before .before .before .before .before in
-    let c₃ = c₂ .before .before .before .before in
-    let c₄ = c₃ .before .before .before .before .before in
-    let c₅ = c₄ .before .before .before .before in
-    let c₆ = c₅ .before .before .before .before in
-    let a = c₆ .args in same (displaces (a .i) (a .n) (a .base)) (c₅ .put-numbered .ensures .written ⨾ c₄ .put-moved .ensures ⨾ c₃ .put .ensures .written
-    ⨾ c₂ .put-coordinate .ensures ⨾ c₁ .put2 .ensures .written)))
+    returns)

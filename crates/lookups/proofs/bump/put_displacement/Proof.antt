@@ -1,3 +1,4 @@
+-- Projected, the displaced coordinate is the divided one, declared in the line before; else the interpolated one.
 use Rattle.text.proofs.Laws.{texts}
 use borrow.Author.Needs.{needs}
 use Rattle.shader.specs.Lookups.{displacementText}

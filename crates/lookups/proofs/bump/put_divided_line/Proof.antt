@@ -1,9 +1,14 @@
+-- The literal is the line of `dividedLine`.
 use mathlib.Core.Path.{refl}
 use native.Mathlib.Omega.{arith}
 use Rattle.text.proofs.Laws.{same}
 use Rattle.lookups.proofs.Lines.{divided}
 use Rattle.lookups.proofs.bump.put_divided_line.Statement.{statement}
 use Rattle.lookups.proofs.bump.put_divided_line.Tie as tie
+
+returns : tie.Need-returns
+returns c =
+    same (divided _) (c .before .before .put-numbered .ensures .written)
 
 pub put-divided-line-spec : {M : Type 1} → statement M
 put-divided-line-spec =
@@ -12,4 +17,4 @@ put-divided-line-spec =
     (λ c. refl)
     (λ c κs. omega arith)
     (λ c. cc)
-    (λ c. same (divided (c .before .before .before .before .before .before .args .i)) (c .before .before .put-numbered .ensures .written)))
+    returns)

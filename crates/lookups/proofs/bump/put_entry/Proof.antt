@@ -1,3 +1,4 @@
+-- The row, and the numbered text behind it.
 use Rattle.text.proofs.Laws.{texts}
 use native.Mathlib.Omega.{arith}
 use Rattle.lookups.proofs.bump.put_entry.Statement.{statement}

@@ -1,3 +1,4 @@
+-- The line is there behind a luminance stage.
 use Rattle.text.proofs.Laws.{texts}
 use borrow.Author.Needs.{needs}
 use Rattle.lookups.proofs.bump.put_luminance.Statement.{statement}

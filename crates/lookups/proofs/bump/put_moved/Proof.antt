@@ -1,3 +1,4 @@
+-- The coordinate, and the four entries of the matrix with what is done with each.
 use mathlib.Core.Path.{refl}
 use native.Mathlib.Omega.{arith}
 use Rattle.text.proofs.Laws.{_⨾_, same}
@@ -5,6 +6,19 @@ use Rattle.shader.specs.Lookups.{coordinateText}
 use Rattle.lookups.proofs.Lines.{moves}
 use Rattle.lookups.proofs.bump.put_moved.Statement.{statement}
 use Rattle.lookups.proofs.bump.put_moved.Tie as tie
+
+returns : tie.Need-returns
+returns c =
+    let s6 = c .before .before in
+    let s5 = s6 .before .before .before .before .before in
+    let s4 = s5 .before .before .before .before .before in
+    let s3 = s4 .before .before .before .before .before in
+    let s2 = s3 .before .before .before .before .before in
+    let s1 = s2 .before .before .before .before .before in
+    let a = s1 .before .before .before .args in
+    same (moves (a .n) (coordinateText (a .i) (a .base)))
+    (s1 .put-coordinate .ensures ⨾ s2 .put .ensures .written ⨾ s3 .put-entry .ensures ⨾ s4 .put-entry2 .ensures ⨾ s5 .put-entry3 .ensures
+    ⨾ s6 .put-entry4 .ensures)
 
 pub put-moved-spec : {M : Type 1} → statement M
 put-moved-spec =
@@ -22,13 +36,4 @@ put-moved-spec =
     (λ c. refl)
     (λ c κs. omega arith)
     (λ c. cc)
-    (λ c.
-    let c₁ = c .before .before in
-    let c₂ = c₁ .before .before .before .before .before in
-    let c₃ = c₂ .before .before .before .before .before in
-    let c₄ = c₃ .before .before .before .before .before in
-    let c₅ = c₄ .before .before .before .before .before in
-    let c₆ = c₅ .before .before .before .before .before in
-    let c₇ = c₆ .before .before .before in
-    let a = c₇ .args in same (moves (a .n) (coordinateText (a .i) (a .base))) (c₆ .put-coordinate .ensures ⨾ c₅ .put .ensures .written ⨾ c₄ .put-entry .ensures
-    ⨾ c₃ .put-entry2 .ensures ⨾ c₂ .put-entry3 .ensures ⨾ c₁ .put-entry4 .ensures)))
+    returns)

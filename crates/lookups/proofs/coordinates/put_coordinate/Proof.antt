@@ -1,3 +1,4 @@
+-- Each arm writes the name of the coordinate that it matched.
 use mathlib.Core.Path.{refl}
 use native.Mathlib.Omega.{arith}
 use Rattle.text.proofs.Laws.{same}

@@ -1,8 +1,15 @@
+-- The coordinate, and its components with the dot in front of them.
 use mathlib.Core.Path.{refl}
-use Rattle.text.proofs.Laws.{_⨾_, same}
+use Rattle.text.proofs.Laws.{_⨾_}
 use Rattle.lookups.proofs.Laws.{dotted}
 use Rattle.lookups.proofs.coordinates.put_swizzled.Statement.{statement}
 use Rattle.lookups.proofs.coordinates.put_swizzled.Tie as tie
+
+returns : tie.Need-returns
+returns c =
+    let s2 = c .before .before in
+    let s1 = s2 .before .before .before .before .before .before in
+    s1 .put-coordinate .ensures ⨾ dotted (s2 .put-either .ensures .written)
 
 pub put-swizzled-spec : {M : Type 1} → statement M
 put-swizzled-spec =
@@ -13,8 +20,4 @@ put-swizzled-spec =
     (λ c. refl)
     (λ c κs. tt)
     (λ c. cc)
-    (λ c.
-    let c₁ = c .before .before in
-    let c₂ = c₁ .before .before .before .before .before .before in
-    let c₃ = c₂ .before .before .before in
-    c₂ .put-coordinate .ensures ⨾ same (dotted (c₃ .args .three)) (c₁ .put-either .ensures .written)))
+    returns)

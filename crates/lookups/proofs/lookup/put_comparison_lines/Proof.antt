@@ -1,3 +1,4 @@
+-- Projected, the comparison reads a coordinate declared in the line before it; else its own.
 use Rattle.text.proofs.Laws.{texts}
 use borrow.Author.Needs.{needs}
 use Rattle.shader.specs.Lookups.{lookupText}

@@ -1,3 +1,4 @@
+-- Each arm writes the lines of the lookup that it matched.
 use borrow.Author.Needs.{needs}
 use Rattle.shader.specs.Lookups.{lookupText}
 use Rattle.lookups.proofs.lookup.put_lookup.Statement.{statement}

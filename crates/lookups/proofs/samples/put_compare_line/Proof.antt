@@ -1,3 +1,4 @@
+-- The line of a depth comparison: the coordinate, its saturated depth, the level.
 use mathlib.Core.Path.{refl}
 use native.Mathlib.Omega.{arith}
 use Rattle.text.proofs.Laws.{_⨾_, same}
@@ -5,6 +6,20 @@ use Rattle.shader.specs.Lookups.{coordinateText}
 use Rattle.lookups.proofs.Lines.{compared}
 use Rattle.lookups.proofs.samples.put_compare_line.Statement.{statement}
 use Rattle.lookups.proofs.samples.put_compare_line.Tie as tie
+
+returns : tie.Need-returns
+returns c =
+    let s7 = c .before .before in
+    let s6 = s7 .before .before .before .before .before in
+    let s5 = s6 .before .before .before .before in
+    let s4 = s5 .before .before .before .before .before in
+    let s3 = s4 .before .before .before .before in
+    let s2 = s3 .before .before .before .before .before in
+    let s1 = s2 .before .before .before .before in
+    let a = s1 .before .before .before .before .args in
+    same (compared (a .lod) (a .i) (coordinateText (a .i) (a .c)))
+    (s1 .put-numbered .ensures .written ⨾ s2 .put-coordinate .ensures ⨾ s3 .put .ensures .written ⨾ s4 .put-coordinate2 .ensures
+    ⨾ s5 .put2 .ensures .written ⨾ s6 .put-level .ensures ⨾ s7 .put3 .ensures .written)
 
 pub put-compare-line-spec : {M : Type 1} → statement M
 put-compare-line-spec =
@@ -22,14 +37,4 @@ put-compare-line-spec =
     (λ c. refl)
     (λ c κs. tt)
     (λ c. cc)
-    (λ c.
-    let c₁ = c .before .before in
-    let c₂ = c₁ .before .before .before .before .before in
-    let c₃ = c₂ .before .before .before .before in
-    let c₄ = c₃ .before .before .before .before .before in
-    let c₅ = c₄ .before .before .before .before in
-    let c₆ = c₅ .before .before .before .before .before in
-    let c₇ = c₆ .before .before .before .before in
-    let c₈ = c₇ .before .before .before .before in
-    let a = c₈ .args in same (compared (a .lod) (a .i) (coordinateText (a .i) (a .c))) (c₇ .put-numbered .ensures .written ⨾ c₆ .put-coordinate .ensures
-    ⨾ c₅ .put .ensures .written ⨾ c₄ .put-coordinate2 .ensures ⨾ c₃ .put2 .ensures .written ⨾ c₂ .put-level .ensures ⨾ c₁ .put3 .ensures .written)))
+    returns)

@@ -1,11 +1,26 @@
+-- The level is that of `levelText` for the flag.
 use mathlib.Core.Path.{refl}
-use native.Mathlib.Omega.{arith}
 use mathlib.Core.Bool.{Bool, true, false}
-use Rattle.shader.specs.Lookups.{levelText}
+use native.Mathlib.Omega.{arith}
 use Rattle.text.proofs.Laws.{by-test}
+use Rattle.shader.specs.Lookups.{levelText}
 use Rattle.lookups.proofs.Lines.{leveled, unleveled}
 use Rattle.lookups.proofs.samples.put_level.Statement.{statement}
 use Rattle.lookups.proofs.samples.put_level.Tie as tie
+
+returns : tie.Need-returns
+returns c =
+    let s = c .before .before in
+    let t = s .before .before .before in
+    let i = t .before .before .args .i in
+    by-test (λ (lod : Bool). levelText lod i) _ true (t .if1 .taken) (leveled i) (s .put-numbered .ensures .written)
+
+returns-2 : tie.Need-returns-2
+returns-2 c =
+    let s = c .before .before in
+    let t = s .before .before .before in
+    let i = t .before .before .args .i in
+    by-test (λ (lod : Bool). levelText lod i) _ false (t .if1 .left) (unleveled i) (s .put .ensures .written)
 
 pub put-level-spec : {M : Type 1} → statement M
 put-level-spec =
@@ -16,6 +31,6 @@ put-level-spec =
     (λ c. refl)
     (λ c κs. tt)
     (λ c. cc)
-    (λ c. let a = c .before .before .before .before .before .before .before .args in by-test (λ (b : Bool). levelText b (a .i)) (a .lod) true (c .before .before .before .before .before .if1 .taken) (leveled (a .i)) (c .before .before .put-numbered .ensures .written))
+    returns
     (λ c. cc)
-    (λ c. let a = c .before .before .before .before .before .before .before .args in by-test (λ (b : Bool). levelText b (a .i)) (a .lod) false (c .before .before .before .before .before .if1 .left) (unleveled (a .i)) (c .before .before .put .ensures .written)))
+    returns-2)

@@ -1,3 +1,4 @@
+-- The name, the tested quotient and the zero behind it.
 use mathlib.Core.Path.{refl}
 use native.Mathlib.Omega.{arith}
 use Rattle.text.proofs.Laws.{_⨾_, same}
@@ -5,6 +6,15 @@ use Rattle.shader.specs.Lookups.{coordinateText}
 use Rattle.lookups.proofs.Lines.{projects}
 use Rattle.lookups.proofs.samples.put_projected_line.Statement.{statement}
 use Rattle.lookups.proofs.samples.put_projected_line.Tie as tie
+
+returns : tie.Need-returns
+returns c =
+    let s3 = c .before .before in
+    let s2 = s3 .before .before .before .before .before in
+    let s1 = s2 .before .before .before .before in
+    let a = s1 .before .before .before .before .args in
+    same (projects (a .i) (coordinateText (a .i) (a .c)))
+    (s1 .put-numbered .ensures .written ⨾ s2 .put-tested-quotient .ensures ⨾ s3 .put .ensures .written)
 
 pub put-projected-line-spec : {M : Type 1} → statement M
 put-projected-line-spec =
@@ -16,10 +26,4 @@ put-projected-line-spec =
     (λ c. refl)
     (λ c κs. tt)
     (λ c. cc)
-    (λ c.
-    let c₁ = c .before .before in
-    let c₂ = c₁ .before .before .before .before .before in
-    let c₃ = c₂ .before .before .before .before in
-    let c₄ = c₃ .before .before .before .before in
-    let a = c₄ .args in same (projects (a .i) (coordinateText (a .i) (a .c))) (c₃ .put-numbered .ensures .written ⨾ c₂ .put-tested-quotient .ensures
-    ⨾ c₁ .put .ensures .written)))
+    returns)

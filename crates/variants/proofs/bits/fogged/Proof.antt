@@ -1,3 +1,4 @@
+-- The two tests of the code are those of `fogged`.
 use borrow.Author.Tests.{ne-eqb}
 use Rattle.variants.proofs.bits.fogged.Statement.{statement}
 use Rattle.variants.proofs.bits.fogged.Tie as tie

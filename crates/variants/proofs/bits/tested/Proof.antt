@@ -1,3 +1,4 @@
+-- The two tests of the code are those of `tested`.
 use borrow.Author.Tests.{ne-eqb}
 use Rattle.variants.proofs.bits.tested.Statement.{statement}
 use Rattle.variants.proofs.bits.tested.Tie as tie

@@ -1,10 +1,10 @@
-use Rattle.wire.specs.Bodies.{keyOf, stagesOf, variantOf}
-use Rattle.wire.specs.Values.{blank}
+-- Eight blank stages, and zeros elsewhere.
+use Rattle.wire.specs.Values.{blankKey, blankVariant, blankEntry}
 use Rattle.wire.proofs.make.blank_record.Statement.{statement}
 use Rattle.wire.proofs.make.blank_record.Tie as tie
 
 returns : tie.Need-returns
-unfolding blank keyOf stagesOf variantOf
+unfolding blankKey blankVariant blankEntry
 returns c = rw (c .blank-stage .ensures)
 
 pub blank-record-spec : {M : Type 1} → statement M

@@ -1,9 +1,8 @@
-use Rattle.wire.specs.Values.{blank, entryRecord}
+-- A blank record of the kind, with the value put in.
 use Rattle.wire.proofs.make.entry_record.Statement.{statement}
 use Rattle.wire.proofs.make.entry_record.Tie as tie
 
 returns : tie.Need-returns
-unfolding entryRecord blank
 returns c = rw (c .blank-record .ensures)
 
 pub entry-record-spec : {M : Type 1} → statement M

@@ -1,9 +1,8 @@
-use Rattle.wire.specs.Values.{blank, keyRecord}
+-- A blank record of the kind, with the value put in.
 use Rattle.wire.proofs.make.key_record.Statement.{statement}
 use Rattle.wire.proofs.make.key_record.Tie as tie
 
 returns : tie.Need-returns
-unfolding keyRecord blank
 returns c = rw (c .blank-record .ensures)
 
 pub key-record-spec : {M : Type 1} → statement M

@@ -1,9 +1,8 @@
-use Rattle.wire.specs.Values.{blank, variantRecord}
+-- A blank record of the kind, with the value put in.
 use Rattle.wire.proofs.make.variant_record.Statement.{statement}
 use Rattle.wire.proofs.make.variant_record.Tie as tie
 
 returns : tie.Need-returns
-unfolding variantRecord blank
 returns c = rw (c .blank-record .ensures)
 
 pub variant-record-spec : {M : Type 1} → statement M

@@ -1,3 +1,4 @@
+-- Byte i behind a place is byte i of what stands from there on.
 use native.Mathlib.Nat.{add-zero}
 use lib.Seq.{getD-drop}
 use borrow.Author.Needs.{needs}
@@ -10,18 +11,6 @@ returns c = simp (getD-drop, add-zero)
 pub stage-at-spec : {M : Type 1} → statement M
 stage-at-spec =
     tie.close
-    (tie.spec
-    (λ c. search needs)
-    (λ c. search needs)
-    (λ c. search needs)
-    (λ c. search needs)
-    (λ c. search needs)
-    (λ c. search needs)
-    (λ c. search needs)
-    (λ c. search needs)
-    (λ c. search needs)
-    (λ c. search needs)
-    (λ c. search needs)
-    (λ c. search needs)
-    (λ c. search needs)
-    returns)
+    (tie.spec (λ c. search needs) (λ c. search needs) (λ c. search needs) (λ c. search needs) (λ c. search needs)
+    (λ c. search needs) (λ c. search needs) (λ c. search needs) (λ c. search needs) (λ c. search needs)
+    (λ c. search needs) (λ c. search needs) (λ c. search needs) returns)

@@ -1,3 +1,4 @@
+-- A record takes as many bytes as records of its kind have.
 use Rattle.wire.proofs.reader.take_record.Statement.{statement}
 use Rattle.wire.proofs.reader.take_record.Tie as tie
 

@@ -1,43 +1,28 @@
-use mathlib.Core.Path.{refl}
-use Rattle.wire.specs.Bodies.{bodyBytes}
+-- The kind says which body is written.
 use borrow.Author.Needs.{needs}
+use Rattle.wire.specs.Bodies.{bodyBytes}
 use Rattle.wire.proofs.writer.put_record.Statement.{statement}
 use Rattle.wire.proofs.writer.put_record.Tie as tie
 
 returns : tie.Need-returns
 unfolding bodyBytes
-returns c = rw (c .before .before .before .before .enum-told .given .1) (c .before .before .put-key .ensures)
+returns c = let p = c .before .before in rw (p .before .before .enum-told .given .1) (p .put-key .ensures)
 
 returns-2 : tie.Need-returns-2
 unfolding bodyBytes
-returns-2 c = rw (c .before .before .before .before .enum-told2 .given .1) (c .before .before .put-variant .ensures)
+returns-2 c = let p = c .before .before in rw (p .before .before .enum-told2 .given .1) (p .put-variant .ensures)
 
 returns-3 : tie.Need-returns-3
 unfolding bodyBytes
-returns-3 c = rw (c .before .before .before .before .enum-told3 .given .1) (c .before .before .put-entry .ensures)
+returns-3 c = let p = c .before .before in rw (p .before .before .enum-told3 .given .1) (p .put-entry .ensures)
 
 returns-4 : tie.Need-returns-4
 unfolding bodyBytes
-returns-4 c = rw (c .before .before .before .before .before .enum-told4 .given .1) (c .before .before .put .ensures .written)
+returns-4 c = let p = c .before .before in rw (p .before .before .enum-told4 .given .1) (p .put-emit .ensures)
 
 pub put-record-spec : {M : Type 1} → statement M
 put-record-spec =
     tie.close
-    (tie.spec
-    (λ c. search needs)
-    (λ c κs. tt)
-    (λ c. search needs)
-    (λ c κs. tt)
-    (λ c. search needs)
-    (λ c κs. tt)
-    (λ c. search needs)
-    (λ c. refl)
-    (λ c κs. tt)
-    (λ c. search needs)
-    returns
-    (λ c. search needs)
-    returns-2
-    (λ c. search needs)
-    returns-3
-    (λ c. search needs)
-    returns-4)
+    (tie.spec (λ c. search needs) (λ c κs. tt) (λ c. search needs) (λ c κs. tt) (λ c. search needs) (λ c κs. tt)
+    (λ c. search needs) (λ c κs. tt) (λ c. search needs) returns (λ c. search needs) returns-2 (λ c. search needs)
+    returns-3 (λ c. search needs) returns-4)

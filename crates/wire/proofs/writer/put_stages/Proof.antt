@@ -1,3 +1,4 @@
+-- The stages passed are written, one behind another.
 use mathlib.Core.Path.{_≡_, sym, ap, _∙_}
 use Prim.Native.Nat.{_≤_, _-_}
 use native.Mathlib.Omega.{arith}
@@ -12,7 +13,6 @@ use Rattle.wire.proofs.Laws.{stage-bytes-more}
 use Rattle.wire.proofs.writer.put_stages.Statement.{statement}
 use Rattle.wire.proofs.writer.put_stages.Tie as tie
 
--- the stages passed are written
 abbrev Inv-loop : tie.InvT-loop
 Inv-loop out₀ at key p₀ i₀ out p i =
     (i ≤ 8) × (length (key .stages) ≡ 8) × Wrote out₀ at out p (raw (stagesBytes (take i (key .stages))))
@@ -25,16 +25,13 @@ unfolding stagesBytes
 loop-holds c =
     (omega arith, sym (length-map (c .before .args .t3 .stages) _) ∙ c .before .good .1 .1 .0 .1 .1 .0 .1 .0 .1, nothing _ _)
 
-add-i : tie.Need-add-i Inv-loop μ-loop
-add-i c = omega arith
-
-loop-less : tie.Need-loop-less Inv-loop μ-loop
-loop-less c = omega arith
-
 loop-again : tie.Need-loop-again Inv-loop μ-loop
 loop-again c =
-    let b = c .before .before .before .before .before .before in
-    (omega arith, b .loop .inv .1, same (stage-bytes-more (b .before .before .args .t3 .stages) (b .loop .i) _ (omega arith)) (b .loop .inv .2 ⨾ c .before .before .put-stage .ensures))
+    let b = c .before .before .before .before .before .before in (
+      omega arith,
+      b .loop .inv .1,
+      same (stage-bytes-more (b .before .before .args .t3 .stages) (b .loop .i) _ (omega arith)) (b .loop .inv .2 ⨾ c .before .before .put-stage .ensures),
+    )
 
 same-length : tie.Need-same-length Inv-loop μ-loop
 same-length c = keeps (c .before .loop .inv .2)
@@ -47,15 +44,5 @@ returns c =
 pub put-stages-spec : {M : Type 1} → statement M
 put-stages-spec =
     tie.close
-    (tie.spec
-    Inv-loop
-    μ-loop
-    loop-holds
-    (λ c. search needs)
-    (λ c. search needs)
-    (λ c κs. tt)
-    add-i
-    loop-less
-    loop-again
-    same-length
-    returns)
+    (tie.spec Inv-loop μ-loop loop-holds (λ c. search needs) (λ c. search needs) (λ c κs. tt) (λ c. omega arith)
+    (λ c. omega arith) loop-again same-length returns)

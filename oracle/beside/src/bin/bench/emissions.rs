@@ -2,7 +2,7 @@
 
 use std::hint::black_box;
 
-use beside::Records;
+use beside::Bodies;
 use ffcore::dxso::{
     emit::VariantKey,
     ff::{FfPsKey, emit_ps_ff_named},
@@ -12,7 +12,10 @@ use oraclelib::{
     generate::{self, Rng},
     records::{Combiner, Key, STAGES, Stage, TEXTURED, Triple},
 };
-use yuzuknoll::{HELD_LENGTH, TEXT_LENGTH};
+use yuzuknoll::{
+    TEXT_LENGTH,
+    raw::{Emitted, HELD_LENGTH},
+};
 
 use crate::measure::{Clock, Row, Sides, measure};
 
@@ -21,7 +24,7 @@ pub struct Call {
     key: FfPsKey,
     variant: VariantKey,
     entry: String,
-    records: Records,
+    bodies: Bodies,
     text: Vec<u8>,
 }
 
@@ -31,7 +34,7 @@ impl Call {
             key: rust_key(&triple.key),
             variant: rust_variant(&triple.variant),
             entry: triple.entry.name().to_owned(),
-            records: Records::of(triple),
+            bodies: Bodies::of(triple),
             text: Vec::new(),
         };
         call.text = call.rust().0.into_bytes();
@@ -55,6 +58,7 @@ impl Call {
 
 pub fn row(group: &'static str, name: &str, passes: usize, calls: &[&Call]) -> Row {
     let mut buffer = vec![0; TEXT_LENGTH];
+    let mut result = Emitted::default();
     let mut copied = vec![0; TEXT_LENGTH];
     let sides = Sides {
         rust: Some(Box::new(|| {
@@ -64,7 +68,8 @@ pub fn row(group: &'static str, name: &str, passes: usize, calls: &[&Call]) -> R
         })),
         ours: Box::new(|| {
             for call in calls {
-                black_box(black_box(&call.records).emit(black_box(&mut buffer)));
+                let bodies = black_box(&call.bodies);
+                black_box(bodies.emit(black_box(&mut buffer), black_box(&mut result)));
             }
         }),
         copy: Box::new(|| {
@@ -108,23 +113,22 @@ pub fn emissions(rng: &mut Rng, count: usize, passes: usize) -> Vec<Row> {
     rows
 }
 
-/// What an emission does before it writes: the records read and checked (an entry that is refused ends there), and the text measured (no buffer).
+/// What an emission does before it writes: the values checked (an entry that is refused ends there), and the text measured (no buffer).
 fn parts(calls: &[Call], passes: usize) -> [Row; 2] {
-    let refused: Vec<Records> = calls
-        .iter()
-        .map(|call| without_name(call.records))
-        .collect();
+    let refused: Vec<Bodies> = calls.iter().map(|call| without_name(call.bodies)).collect();
     let (mut buffer, mut copied) = (vec![0; TEXT_LENGTH], vec![0; TEXT_LENGTH]);
+    let (mut checked, mut result) = (Emitted::default(), Emitted::default());
     let read = Sides {
         rust: None,
         ours: Box::new(|| {
-            for records in &refused {
-                black_box(black_box(records).emit(black_box(&mut buffer)));
+            for bodies in &refused {
+                let bodies = black_box(bodies);
+                black_box(bodies.emit(black_box(&mut buffer), black_box(&mut checked)));
             }
         }),
         copy: Box::new(|| {
-            for records in &refused {
-                let mut copy = black_box(*records);
+            for bodies in &refused {
+                let mut copy = black_box(*bodies);
                 black_box(&mut copy);
             }
         }),
@@ -133,7 +137,8 @@ fn parts(calls: &[Call], passes: usize) -> [Row; 2] {
         rust: None,
         ours: Box::new(|| {
             for call in calls {
-                black_box(black_box(&call.records).emit(black_box(&mut [])));
+                let bodies = black_box(&call.bodies);
+                black_box(bodies.emit(black_box(&mut []), black_box(&mut result)));
             }
         }),
         copy: Box::new(|| {
@@ -170,9 +175,9 @@ fn parts(calls: &[Call], passes: usize) -> [Row; 2] {
     })
 }
 
-fn without_name(mut records: Records) -> Records {
-    records.entry[1] = 0;
-    records
+fn without_name(mut bodies: Bodies) -> Bodies {
+    bodies.entry[0] = 0;
+    bodies
 }
 
 /// Bytes of text in one row of the growth with text.

@@ -18,7 +18,10 @@ use oraclelib::{
     records::{Kind, Triple, record},
     rules,
 };
-use yuzuknoll::{Applied, HELD_LENGTH, TEXT_LENGTH, packed};
+use yuzuknoll::{
+    TEXT_LENGTH,
+    raw::{self, Applied, HELD_LENGTH},
+};
 
 use crate::measure::{Clock, Row, Sides, measure};
 
@@ -101,6 +104,7 @@ fn row_by(
 }
 
 fn read_row(name: &str, records: &[Vec<u8>], passes: usize) -> Row {
+    let mut report = raw::Record::default();
     let sides = Sides {
         rust: Some(Box::new(|| {
             for record in records {
@@ -109,7 +113,7 @@ fn read_row(name: &str, records: &[Vec<u8>], passes: usize) -> Row {
         })),
         ours: Box::new(|| {
             for record in records {
-                black_box(packed::read(black_box(record)));
+                black_box(raw::read(black_box(record), black_box(&mut report)));
             }
         }),
         copy: copy_of(records),
@@ -120,6 +124,7 @@ fn read_row(name: &str, records: &[Vec<u8>], passes: usize) -> Row {
 fn write_row(name: &str, records: &[Vec<u8>], passes: usize) -> Row {
     let mut buffer = [0; HELD_LENGTH];
     let mut theirs = [0; HELD_LENGTH];
+    let mut report = raw::Record::default();
     let sides = Sides {
         rust: Some(Box::new(|| {
             for record in records {
@@ -131,7 +136,8 @@ fn write_row(name: &str, records: &[Vec<u8>], passes: usize) -> Row {
         })),
         ours: Box::new(|| {
             for record in records {
-                black_box(packed::write(black_box(record), black_box(&mut buffer)));
+                let (record, buffer) = (black_box(record), black_box(&mut buffer));
+                black_box(raw::write(record, buffer, black_box(&mut report)));
             }
         }),
         copy: copy_of(records),
@@ -142,6 +148,7 @@ fn write_row(name: &str, records: &[Vec<u8>], passes: usize) -> Row {
 fn hold_row(name: &str, records: &[Vec<u8>], passes: usize) -> Row {
     let mut held = [0; HELD_LENGTH];
     let mut theirs = Held::default();
+    let mut report = Applied::default();
     let sides = Sides {
         rust: Some(Box::new(|| {
             for record in records {
@@ -151,11 +158,8 @@ fn hold_row(name: &str, records: &[Vec<u8>], passes: usize) -> Row {
         })),
         ours: Box::new(|| {
             for record in records {
-                black_box(packed::apply(
-                    black_box(&mut held),
-                    black_box(record),
-                    &mut [],
-                ));
+                let (held, record) = (black_box(&mut held), black_box(record));
+                black_box(raw::apply(held, record, &mut [], black_box(&mut report)));
             }
         }),
         copy: copy_of(records),
@@ -182,12 +186,14 @@ fn emit_row(corpus: &Corpus, passes: usize) -> Row {
             entry: Some(t.entry),
         })
         .collect();
-    let held: Vec<Vec<u8>> = corpus.triples.iter().map(Triple::records).collect();
+    let held = corpus.triples.iter().map(Triple::records);
+    let held = held.map(|records| records.try_into().expect("three records"));
     let texts: Vec<Vec<u8>> = theirs
         .iter()
         .map(|held| rust_emit(held).0.into_bytes())
         .collect();
-    let mut ours = held.clone();
+    let mut ours: Vec<[u8; HELD_LENGTH]> = held.collect();
+    let mut report = Applied::default();
     let mut buffer = vec![0; TEXT_LENGTH];
     let sides = Sides {
         rust: Some(Box::new(|| {
@@ -197,10 +203,11 @@ fn emit_row(corpus: &Corpus, passes: usize) -> Row {
         })),
         ours: Box::new(|| {
             for held in &mut ours {
-                black_box(packed::apply(
+                black_box(raw::apply(
                     black_box(held),
                     black_box(&[Kind::Emit as u8]),
                     black_box(&mut buffer),
+                    black_box(&mut report),
                 ));
             }
         }),
@@ -227,22 +234,25 @@ fn whole_input(rng: &mut Rng) -> Vec<u8> {
 
 /// The program's output, by the C interface.
 fn ours_output(input: &[u8], out: &mut Vec<u8>, text: &mut [u8]) {
-    let mut held = yuzuknoll::Held::new();
+    let mut held = [0; HELD_LENGTH];
+    let mut applied = Applied::default();
     let (mut at, mut texts) = (0, 0);
     out.clear();
     while at < input.len() {
-        let applied = held.apply(&input[at..], text).expect("a good record");
-        if let Applied::Text(_, e) = applied {
+        let number = raw::apply(&mut held, &input[at..], text, &mut applied);
+        assert_eq!(number, 0, "a good record");
+        if applied.kind == Kind::Emit as u64 {
+            let e = applied.result;
             writeln!(
                 out,
                 "emit {} {} {} {}",
                 e.mask, e.rows, e.lookups, e.warning
             )
             .expect("room");
-            out.extend_from_slice(&text[..e.length]);
+            out.extend_from_slice(&text[..e.length as usize]);
             texts += 1;
         }
-        at += applied.taken();
+        at += applied.taken as usize;
     }
     writeln!(out, "end {texts}").expect("room");
 }

@@ -1,0 +1,48 @@
+-- At each `return` the kind and the test of its value say which case of `writeAs` holds.
+use mathlib.Core.Path.{sym, _∙_}
+use borrow.Author.Needs.{needs}
+use borrow.Author.Tests.{not-true, not-false}
+use Rattle.wire.specs.Writing.{writeAs}
+use Rattle.wire.specs.declared.Kind.the-variants as kind
+use Rattle.wire.proofs.Written.{free-writes}
+use Rattle.wire.proofs.writer.judge.Statement.{statement}
+use Rattle.wire.proofs.writer.judge.Tie as tie
+
+returns : tie.Need-returns
+unfolding writeAs
+returns c = rw (c .before .before .enum-told .given .1, sym (c .before .stage-flags-bad .ensures) ∙ c .if1 .taken)
+
+returns-2 : tie.Need-returns-2
+unfolding writeAs
+returns-2 c = rw (c .before .before .enum-told2 .given .1, sym (c .before .variant-flags-bad .ensures) ∙ c .if2 .taken)
+
+returns-3 : tie.Need-returns-3
+unfolding writeAs
+returns-3 c = rw (c .before .before .enum-told3 .given .1, sym (c .before .entry-good .ensures) ∙ not-true _ (c .if3 .taken))
+
+returns-4 : tie.Need-returns-4
+returns-4 c =
+    let s = c .before .before in
+    s .before .before .judge-room .ensures
+    ∙ free-writes kind.Key _ _ (s .enum-told .given .1) (sym (c .before .stage-flags-bad .ensures) ∙ c .if1 .left)
+
+returns-5 : tie.Need-returns-5
+returns-5 c =
+    let s = c .before .before in
+    s .before .before .judge-room .ensures
+    ∙ free-writes kind.Variant _ _ (s .enum-told2 .given .1) (sym (c .before .variant-flags-bad .ensures) ∙ c .if2 .left)
+
+returns-6 : tie.Need-returns-6
+returns-6 c =
+    let s = c .before .before in
+    s .before .before .judge-room .ensures
+    ∙ free-writes kind.Entry _ _ (s .enum-told3 .given .1) (sym (c .before .entry-good .ensures) ∙ not-false _ (c .if3 .left))
+
+returns-7 : tie.Need-returns-7
+returns-7 c = c .before .before .judge-room .ensures ∙ free-writes kind.Emit _ _ (c .enum-told4 .given .1) tt
+
+pub judge-spec : {M : Type 1} → statement M
+judge-spec =
+    tie.close
+    (tie.spec (λ c κs. tt) (λ c. search needs) (λ c κs. tt) returns (λ c. search needs) (λ c κs. tt) returns-2
+    (λ c. search needs) (λ c κs. tt) returns-3 (λ c. search needs) returns-4 returns-5 returns-6 returns-7)

@@ -1,0 +1,62 @@
+//! From records to texts: takes a stream of records, as a file or a connection would give it, and reports each text.
+
+use yuzuknoll::{
+    Applied, Argument, Combiner, Entry, FogMode, Key, Op, Record, Refusal, Session, Stage,
+    StageFlags, TEXT_LENGTH, Variant, VariantFlags,
+};
+
+/// A stage that shows its texture, as it is or lit by the diffuse colour.
+fn key(op: Op) -> Key {
+    Key::of([Stage {
+        colour: Combiner::new(op, Argument::TEXTURE, Argument::DIFFUSE),
+        flags: StageFlags::TEXTURED,
+        ..Stage::DISABLED
+    }])
+}
+
+/// A text of the plain key, one of the lit key with the same variant and entry, and a variant that is cut short.
+fn make_records() -> Result<Vec<u8>, Refusal> {
+    let foggy = Variant {
+        fog_table_mode: FogMode::EXP,
+        flags: VariantFlags::FOG_SOURCE_W,
+        ..Variant::default()
+    };
+    let records = [
+        Record::Key(key(Op::SELECTARG1)),
+        Record::Variant(foggy),
+        Record::Entry(Entry::new("mirror")?),
+        Record::Emit,
+        Record::Key(key(Op::MODULATE)),
+        Record::Emit,
+        Record::Variant(foggy),
+    ];
+    let mut bytes = records.map(|record| record.to_vec()).concat();
+    bytes.pop();
+    Ok(bytes)
+}
+
+fn main() -> Result<(), Refusal> {
+    let records = make_records()?;
+    let mut buffer = [0; TEXT_LENGTH];
+    let mut session = Session::new();
+    let mut rest = records.as_slice();
+    while let Some(kind) = rest.first() {
+        let before = rest.len();
+        match session.apply(&mut rest, &mut buffer) {
+            Ok(Applied::Replaced) => {
+                println!("a record of kind {kind}, {} bytes", before - rest.len());
+            }
+            Ok(Applied::Text(emission)) => println!(
+                "a text of {} bytes with {} lookup",
+                emission.text.len(),
+                emission.lookups
+            ),
+            Err(refusal) => {
+                let at = records.len() - rest.len();
+                println!("refused with {} at {at}", refusal.number());
+                break;
+            }
+        }
+    }
+    Ok(())
+}

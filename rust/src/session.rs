@@ -1,0 +1,114 @@
+//! Records one after another, and what they set.
+
+use crate::{Emission, Entry, Key, Kind, Record, Refusal, Variant, raw};
+
+/// The key, the variant and the entry that the records so far have set.
+///
+/// ```
+/// use yuzuknoll::{Applied, Entry, Key, Record, Session, TEXT_LENGTH, Variant};
+///
+/// let (key, variant, entry) = (Key::default(), Variant::default(), Entry::new("m")?);
+/// let records = [key.into(), variant.into(), entry.into(), Record::Emit].map(|r| r.to_vec()).concat();
+///
+/// let mut session = Session::new();
+/// let mut buffer = [0; TEXT_LENGTH];
+/// let mut rest = records.as_slice();
+/// while !rest.is_empty() {
+///     if let Applied::Text(emission) = session.apply(&mut rest, &mut buffer)? {
+///         println!("{}", emission.as_str());
+///     }
+/// }
+/// # Ok::<(), yuzuknoll::Refusal>(())
+/// ```
+#[derive(Clone, Copy, Debug, PartialEq, Eq, Hash)]
+pub struct Session {
+    held: [u8; raw::HELD_LENGTH],
+}
+
+/// Where the records of the variant and of the entry begin. The key's comes first.
+const VARIANT_AT: usize = Kind::Key.record_length();
+const ENTRY_AT: usize = VARIANT_AT + Kind::Variant.record_length();
+
+/// What a record did.
+#[derive(Clone, Copy, Debug, PartialEq, Eq)]
+pub enum Applied<'a> {
+    /// The record replaced the key, the variant or the entry that was held.
+    Replaced,
+    /// The record asked for a text.
+    Text(Emission<'a>),
+}
+
+impl Session {
+    /// Nothing is held.
+    #[must_use]
+    pub const fn new() -> Self {
+        Self::from_bytes([0; raw::HELD_LENGTH])
+    }
+
+    /// What [`as_bytes`](Self::as_bytes) gave. A part that is no good record of its kind counts as not held.
+    #[must_use]
+    pub const fn from_bytes(held: [u8; raw::HELD_LENGTH]) -> Self {
+        Self { held }
+    }
+
+    /// The records of the key, the variant and the entry, one after another, with zeros for what is not held.
+    #[must_use]
+    pub const fn as_bytes(&self) -> &[u8; raw::HELD_LENGTH] {
+        &self.held
+    }
+
+    #[must_use]
+    pub fn key(&self) -> Option<Key> {
+        match self.record_at(0)? {
+            Record::Key(key) => Some(key),
+            _ => None,
+        }
+    }
+
+    #[must_use]
+    pub fn variant(&self) -> Option<Variant> {
+        match self.record_at(VARIANT_AT)? {
+            Record::Variant(variant) => Some(variant),
+            _ => None,
+        }
+    }
+
+    #[must_use]
+    pub fn entry(&self) -> Option<Entry> {
+        match self.record_at(ENTRY_AT)? {
+            Record::Entry(entry) => Some(entry),
+            _ => None,
+        }
+    }
+
+    fn record_at(&self, place: usize) -> Option<Record> {
+        Record::read(&mut self.held.get(place..)?).ok()
+    }
+
+    /// Takes the record at the front of `records`, and moves `records` on to what follows it. An emit record writes the text of what is held to the
+    /// front of `text`. Does not modify the bytes after the text.
+    ///
+    /// # Errors
+    /// As [`Record::read`]; for an emit record also [`Refusal::EmitTooEarly`] if a key, a variant or an entry is missing, or [`Refusal::NoRoom`] if
+    /// the text is longer than the buffer. `records` then still begins with the refused record, and the session is as it was.
+    pub fn apply<'a>(
+        &mut self,
+        records: &mut &[u8],
+        text: &'a mut [u8],
+    ) -> Result<Applied<'a>, Refusal> {
+        let mut applied = raw::Applied::default();
+        Refusal::check(raw::apply(&mut self.held, records, text, &mut applied))?;
+        *records = records.get(applied.taken as usize..).unwrap_or_default();
+        Ok(if applied.kind == Kind::Emit.number().into() {
+            Applied::Text(Emission::of(&applied.result, text))
+        } else {
+            Applied::Replaced
+        })
+    }
+}
+
+impl Default for Session {
+    fn default() -> Self {
+        Self::new()
+    }
+}
