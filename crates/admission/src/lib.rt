@@ -1,21 +1,30 @@
 //! The causes for which values are refused: stage flags, variant flags, the entry.
-use values::Entry;
+pub mod entry;
+pub mod words;
+
+pub use entry::entry_good;
 use values::Key;
 use values::Variant;
+pub use words::entry_reserved;
 ghost use mathlib.Core.Path.{_≡_};
-ghost use mathlib.Core.Bool.{_&&_, cond};
-ghost use lib.Dec.{eqb, leb};
+ghost use mathlib.Core.Bool.{_&&_};
+ghost use lib.Dec.{leb};
 ghost use Rattle.values.specs.Flags.{stageFlagsBad, variantFlagsBad};
-ghost use Rattle.values.specs.Entries.{continuesName, entryGood, isLetter, startsName};
+ghost use Rattle.values.specs.Entries.{continuesName, isLetter, startsName};
 
 const STAGES: usize = 8;
-
-const NAME_BYTES: u8 = 32;
 
 // The lowest flag bit without a meaning: bit 2 of a stage, bit 6 of a variant.
 const UNUSED_STAGE_FLAG: u8 = 4;
 
 const UNUSED_VARIANT_FLAG: u8 = 64;
+
+// Where a pass over an entry's body stands: how many bytes were taken, the length byte, and 1 once a byte was wrong.
+pub struct Pass {
+    pub taken: u8,
+    pub length: u8,
+    pub wrong: u8,
+}
 
 pub fn stage_flags_bad(key: Key) -> bool
     ensures { λ r. ⌜ r ≡ stageFlagsBad (key .stages) ⌝ }
@@ -59,34 +68,4 @@ fn continues_name(c: u8) -> bool
     ensures { λ r. ⌜ r ≡ continuesName c ⌝ }
 {
     starts_name(c) | between(b'0', c, b'9')
-}
-
-// Inside the name, a byte that may continue it; behind it, 0.
-fn stands(inside: bool, c: u8) -> bool
-    ensures { λ r. ⌜ r ≡ cond inside (continuesName c) (eqb c 0) ⌝ }
-{
-    (inside & continues_name(c)) | (!inside & (c == 0))
-}
-
-// The first byte of a name must start it; all 32 bytes are then tested together.
-pub fn entry_good(entry: Entry) -> bool
-    ensures { λ r. ⌜ r ≡ entryGood entry ⌝ }
-{
-    let name = entry.name;
-    if entry.len == 0 {
-        return false;
-    }
-    if NAME_BYTES < entry.len {
-        return false;
-    }
-    if !starts_name(name[0]) {
-        return false;
-    }
-    let mut good = true;
-    let mut i = 0u8;
-    while i < NAME_BYTES {
-        good = good & stands(i < entry.len, name[i as usize]);
-        i += 1;
-    }
-    good
 }

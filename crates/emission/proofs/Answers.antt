@@ -22,13 +22,14 @@ use Rattle.cascade.specs.declared.Survey.{Survey}
 use Rattle.shader.specs.Whole.{wholeText}
 use Rattle.values.specs.Flags.{stageFlagsBad, variantFlagsBad}
 use Rattle.values.specs.Entries.{entryGood}
+use Rattle.values.specs.Words.{entryReserved}
 use Rattle.values.specs.Admitted.{Admitted}
 use Rattle.shader.specs.Results.{textOf, inFront, alphaWarning, emittedOf, answerOf, answerNumber, emissionNumber}
 use Rattle.shader.specs.Demand.{Demand3}
 use Rattle.values.specs.declared.Variant.{Variant}
 use Rattle.values.specs.declared.Entry.{Entry}
 use Rattle.values.specs.declared.Emitted.{Emitted}
-use Rattle.values.specs.declared.Refusal.the-variants.{StageFlags, VariantFlags, EntryName, NoRoom}
+use Rattle.values.specs.declared.Refusal.the-variants.{StageFlags, VariantFlags, EntryName, ReservedWord, NoRoom}
 use Rattle.values.specs.declared.Answer.{Answer}
 use Rattle.values.specs.declared.Answer.the-variants.{Text, Refused}
 use Rattle.shader.proofs.Names.Truth.{and-fst}
@@ -76,13 +77,18 @@ module _ (k : Key) (v : Variant) (e : Entry) (room : ℕ) where
   unfolding answerOf
   entry-name s f n = rw (s, f, n)
 
+  pub reserved-word : stageFlagsBad (k .stages) ≡ false → variantFlagsBad v ≡ false → entryGood e ≡ true → entryReserved e ≡ true
+      → Refused ReservedWord ≡ answerOf k v e room
+  unfolding answerOf
+  reserved-word s f n w = rw (s, f, n, w)
+
   pub no-room : Admitted k v e → room < length (textOf k v e) → Refused NoRoom ≡ answerOf k v e room
   unfolding answerOf
-  no-room h l = rw (h .stageFlags, h .variantFlags, h .entryName, lt-ltb _ _ l)
+  no-room h l = rw (h .stageFlags, h .variantFlags, h .entryName, h .entryWord, lt-ltb _ _ l)
 
   pub with-room : Admitted k v e → length (textOf k v e) ≤ room → Text (emittedOf k v e) ≡ answerOf k v e room
   unfolding answerOf
-  with-room h l = rw (h .stageFlags, h .variantFlags, h .entryName, le-ltb _ _ l)
+  with-room h l = rw (h .stageFlags, h .variantFlags, h .entryName, h .entryWord, le-ltb _ _ l)
 
   pub numbered : {a : Answer} → a ≡ answerOf k v e room → answerNumber a ≡ emissionNumber k v e room
   numbered h = ap answerNumber h ∙ number-of-answer k v e room

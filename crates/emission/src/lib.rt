@@ -61,7 +61,7 @@ fn put_text(out: &mut [u8], k: Key, v: Variant, e: Entry, u: Survey) -> Place
     w
 }
 
-// Writes the text of values that are free of the causes 3, 5 and 6 to the front of out, without checking them again.
+// Writes the text of values that are free of the causes 3, 5, 6 and 13 to the front of out, without checking them again.
 pub fn emit_checked(key: Key, variant: Variant, entry: Entry, out: &mut [u8]) -> Answer
     requires { ⌜ Admitted key variant entry ⌝ }
     ensures answer { λ r. ⌜ r ≡ answerOf key variant entry (length (now (out .entry))) ⌝ }
@@ -99,6 +99,9 @@ pub fn emit(key: Key, variant: Variant, entry: Entry, out: &mut [u8]) -> Answer
     }
     if !admission::entry_good(entry) {
         return Answer::Refused(Refusal::EntryName);
+    }
+    if admission::entry_reserved(entry) {
+        return Answer::Refused(Refusal::ReservedWord);
     }
     emit_checked(key, variant, entry, out)
 }

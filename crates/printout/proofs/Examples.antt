@@ -12,6 +12,7 @@ use Rattle.cascade.specs.Warnings.{anyWarns, stageWarnings}
 use Rattle.shader.specs.Output.{specularText, fogText, testText, srgbText, returnText, outputText}
 use Rattle.values.specs.Flags.{stageFlagsBad}
 use Rattle.values.specs.Entries.{all, entryGood}
+use Rattle.values.specs.Words.{reservedWord}
 use Rattle.shader.specs.Results.{answerOf}
 use Rattle.shader.specs.Whole.{varyingsText, srgbHelperText, fragmentText, frontText, stageInText, samplersText, parametersText}
 use Rattle.shader.specs.Whole.{spriteText, stagesText, localsText, bodyText, wholeText}
@@ -82,7 +83,7 @@ example-printed : programOutput example
     ∷ [])
 unfolding example lines programOutput printedFrom printed emitLine endLine decimalOf
     holding applyRead applyAs readRecord readAs readBody blankKey blankVariant blankEntry keyFromBody stagesFromBytes variantFromBody entryFromBody
-    active maskOf lastConstant anyFactor rowsOf live lookupsOf readsBumpEnv anyWarns stageWarnings stageFlagsBad all entryGood answerOf
+    active maskOf lastConstant anyFactor rowsOf live lookupsOf readsBumpEnv anyWarns stageWarnings stageFlagsBad all entryGood reservedWord answerOf
     specularText fogText testText srgbText returnText outputText varyingsText srgbHelperText fragmentText frontText stageInText samplersText
     parametersText spriteText stagesText localsText bodyText wholeText
 example-printed = refl

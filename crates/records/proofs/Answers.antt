@@ -7,6 +7,7 @@ use lib.Dec.{eqb, ltb}
 use lib.ListN.{length}
 use Rattle.values.specs.Flags.{stageFlagsBad, variantFlagsBad}
 use Rattle.values.specs.Entries.{entryGood}
+use Rattle.values.specs.Words.{entryReserved}
 use Rattle.values.specs.Refusals.{numberOf}
 use Rattle.values.specs.declared.Key.{Key}
 use Rattle.values.specs.declared.Variant.{Variant}
@@ -15,7 +16,7 @@ use Rattle.values.specs.declared.Emitted.{Emitted}
 use Rattle.values.specs.declared.Answer.{Answer}
 use Rattle.values.specs.declared.Answer.the-variants as emission
 use Rattle.values.specs.declared.Refusal.{Refusal}
-use Rattle.values.specs.declared.Refusal.the-variants.{CutShort, UnknownKind, StageFlags, SpecularAdd, VariantFlags, EntryName, EmitTooEarly, NoRoom, InputTooLong}
+use Rattle.values.specs.declared.Refusal.the-variants.{CutShort, UnknownKind, StageFlags, SpecularAdd, VariantFlags, EntryName, ReservedWord, EmitTooEarly, NoRoom, InputTooLong}
 use Rattle.shader.specs.Results.{textOf, emittedOf, answerOf, emissionNumber}
 use Rattle.wire.specs.Bodies.{recordLength}
 use Rattle.wire.specs.Values.{keyRecord, variantRecord, entryRecord}
@@ -30,25 +31,26 @@ use Rattle.records.specs.declared.ApplyAnswer.the-variants.{Replaced, Te
 use Rattle.records.specs.declared.Applied.{Applied}
 
 -- P of a refusal and P of a text give P of what emission answers.
-abbrev first : Bool → Bool → Bool → Bool → ℕ
-first three five six eight = cond three 3 (cond five 5 (cond six 6 (cond eight 8 0)))
+abbrev first : Bool → Bool → Bool → Bool → Bool → ℕ
+first three five six thirteen eight = cond three 3 (cond five 5 (cond six 6 (cond thirteen 13 (cond eight 8 0))))
 
-by-tests : (P : Answer → Type 0) (m : Emitted) (three five six eight : Bool) →
-    ((c : Refusal) → first three five six eight ≡ numberOf c → P (emission.Refused c)) → (first three five six eight ≡ 0 → P (emission.Text m)) →
+by-tests : (P : Answer → Type 0) (m : Emitted) (three five six thirteen eight : Bool) →
+    ((c : Refusal) → first three five six thirteen eight ≡ numberOf c → P (emission.Refused c)) → (first three five six thirteen eight ≡ 0 → P (emission.Text m)) →
     P (cond three (emission.Refused StageFlags) (cond five (emission.Refused VariantFlags) (cond six (emission.Refused EntryName)
-    (cond eight (emission.Refused NoRoom) (emission.Text m)))))
-by-tests P m true five six eight f g = f StageFlags refl
-by-tests P m false true six eight f g = f VariantFlags refl
-by-tests P m false false true eight f g = f EntryName refl
-by-tests P m false false false true f g = f NoRoom refl
-by-tests P m false false false false f g = g refl
+    (cond thirteen (emission.Refused ReservedWord) (cond eight (emission.Refused NoRoom) (emission.Text m))))))
+by-tests P m true five six thirteen eight f g = f StageFlags refl
+by-tests P m false true six thirteen eight f g = f VariantFlags refl
+by-tests P m false false true thirteen eight f g = f EntryName refl
+by-tests P m false false false true eight f g = f ReservedWord refl
+by-tests P m false false false false true f g = f NoRoom refl
+by-tests P m false false false false false f g = g refl
 
 emission-cases : (P : Answer → Type 0) (k : Key) (v : Variant) (e : Entry) (room : ℕ) →
     ((c : Refusal) → emissionNumber k v e room ≡ numberOf c → P (emission.Refused c)) →
     (emissionNumber k v e room ≡ 0 → P (emission.Text (emittedOf k v e))) → P (answerOf k v e room)
 unfolding answerOf emissionNumber
 emission-cases P k v e room =
-    by-tests P (emittedOf k v e) (stageFlagsBad (k .stages)) (variantFlagsBad v) (not (entryGood e)) (ltb room (length (textOf k v e)))
+    by-tests P (emittedOf k v e) (stageFlagsBad (k .stages)) (variantFlagsBad v) (not (entryGood e)) (entryReserved e) (ltb room (length (textOf k v e)))
 
 -- P of a refusal and P of a text give P of the answer to an emit record of n bytes.
 module _ (P : ApplyAnswer → Type 0) (n : ℕ) (h : Held) (room : ℕ) where
@@ -76,6 +78,7 @@ positive StageFlags = refl
 positive SpecularAdd = refl
 positive VariantFlags = refl
 positive EntryName = refl
+positive ReservedWord = refl
 positive EmitTooEarly = refl
 positive NoRoom = refl
 positive InputTooLong = refl

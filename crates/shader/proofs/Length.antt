@@ -26,6 +26,7 @@ use Rattle.cascade.specs.Stages.{fallback, combined, expressionOf, alphaOf, dec
 use Rattle.cascade.specs.Reading.{live}
 use Rattle.cascade.specs.declared.Decoded.the-variants.{Bump}
 use Rattle.values.specs.Entries.{nameOf, entryGood}
+use Rattle.values.specs.Words.{entryReserved}
 use Rattle.values.specs.Flags.{stageFlagsBad, variantFlagsBad}
 use Rattle.values.specs.declared.Combiner.{Combiner}
 use Rattle.values.specs.declared.Stage.{Stage}
@@ -243,14 +244,15 @@ module _ (k : Key) (v : Variant) (e : Entry) (stages : length (k .stages) ≤ 8)
     pub never-eight : emissionNumber k v e n ≡ 8 → ⊥
     unfolding emissionNumber
     never-eight =
-        go (stageFlagsBad (k .stages)) (variantFlagsBad v) (entryGood e) (λ g. le-ltb _ _ (le-trans (good-at-most g) h))
+        go (stageFlagsBad (k .stages)) (variantFlagsBad v) (entryGood e) (entryReserved e) (λ g. le-ltb _ _ (le-trans (good-at-most g) h))
       where
-        go : (three five good : Bool) → (T good → ltb n (length (textOf k v e)) ≡ false)
-            → _≡_ {A = ℕ} (cond three 3 (cond five 5 (cond (not good) 6 (cond (ltb n (length (textOf k v e))) 8 0)))) 8 → ⊥
-        go true five good f e = omega arith
-        go false true good f e = omega arith
-        go false false false f e = omega arith
-        go false false true f e = let z : _≡_ {A = ℕ} 0 8 = rw (f tt) at e in omega arith
+        go : (three five good word : Bool) → (T good → ltb n (length (textOf k v e)) ≡ false)
+            → _≡_ {A = ℕ} (cond three 3 (cond five 5 (cond (not good) 6 (cond word 13 (cond (ltb n (length (textOf k v e))) 8 0))))) 8 → ⊥
+        go true five good word f e = omega arith
+        go false true good word f e = omega arith
+        go false false false word f e = omega arith
+        go false false true true f e = omega arith
+        go false false true false f e = let z : _≡_ {A = ℕ} 0 8 = rw (f tt) at e in omega arith
 
     pub never-no-room : answerOf k v e n ≡ Refused NoRoom → ⊥
     never-no-room a = never-eight (sym (number-of-answer k v e n) ∙ ap answerNumber a)

@@ -9,7 +9,8 @@ use lib.Dec.{eqb}
 use lib.ListN.{take}
 use Rattle.cascade.specs.Keys.{active}
 use Rattle.cascade.specs.Reading.{live, lookupsOf}
-use Rattle.shader.specs.Names.{Name, name, Occurrence, declaration, usage, row, occurrences}
+use Rattle.values.specs.Listed.{Name, name}
+use Rattle.shader.specs.Names.{Occurrence, declaration, usage, row, occurrences}
 use Rattle.values.specs.declared.Key.{Key}
 use Rattle.values.specs.declared.Emitted.{Emitted}
 use Rattle.values.specs.declared.Answer.{Answer}

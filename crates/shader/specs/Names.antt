@@ -1,7 +1,5 @@
--- Listed names: a text as words and marks, which words are listed names, which of them are declarations, and the part of a text that counts.
--- 01: "**Listed names**: current, temp, oC0, in, in_stage, point_coord, ps_c, alpha_ref, fog_data, bump_env, lod_bias, fog_c, fog_f, fog_dz,
--- fog_range, and t, s, samp, pc, bc, proj each with 0 to 7."
-use Prim.Native.Nat.{ℕ, suc, _+_, _-_, _*_}
+-- Listed names in a text: a text as words and marks, which words are listed names, which of them are declarations, and the part of a text that counts.
+use Prim.Native.Nat.{ℕ, _+_, _-_, _*_}
 use Prim.Native.Char.{code}
 use Prim.Native.String.{String}
 use mathlib.Core.Bool.{Bool, true, false, not, _&&_, _||_, cond}
@@ -12,39 +10,7 @@ use lib.ListN.{getD}
 use Rattle.text.specs.Text.{bytes}
 use Rattle.text.specs.Format.{same}
 use Rattle.values.specs.Entries.{isDigit, continuesName}
-
-abbrev pub singles : List String
-singles =
-    "current" ∷ "temp" ∷ "oC0" ∷ "in" ∷ "in_stage" ∷ "point_coord" ∷ "ps_c" ∷ "alpha_ref" ∷ "fog_data" ∷ "bump_env" ∷ "lod_bias" ∷ "fog_c"
-    ∷ "fog_f" ∷ "fog_dz" ∷ "fog_range" ∷ []
-
-abbrev pub families : List String
-families = "t" ∷ "s" ∷ "samp" ∷ "pc" ∷ "bc" ∷ "proj" ∷ []
-
--- A listed name: its place in that list, from 0, and its stage number, 0 for a name that has none.
-pub data Name : Type 0 where
-  name : ℕ → ℕ → Name
-
--- the number from 0 to 7 that stands in the word w behind s
-abbrev pub stageIn : List ℕ → List ℕ → Option ℕ
-stageIn [] [] = none
-stageIn [] (d ∷ []) = cond (leb 48 d && leb d 55) (some (d - 48)) none
-stageIn [] (d ∷ (c ∷ w)) = none
-stageIn (x ∷ s) [] = none
-stageIn (x ∷ s) (c ∷ w) = cond (eqb x c) (stageIn s w) none
-
--- the name that the word w is, of these families, the first of them at place k
-abbrev pub inFamilies : List String → ℕ → List ℕ → Option Name
-inFamilies [] k w = none
-inFamilies (s ∷ r) k w = elim (stageIn (bytes s) w) [ some i ↦ some (name k i) | none ↦ inFamilies r (suc k) w ]
-
-abbrev pub inList : List String → ℕ → List ℕ → Option Name
-inList [] k w = inFamilies families k w
-inList (s ∷ r) k w = cond (same (bytes s) w) (some (name k 0)) (inList r (suc k) w)
-
--- the listed name that the word w is
-abbrev pub listed : List ℕ → Option Name
-listed w = inList singles 0 w
+use Rattle.values.specs.Listed.{Name, listed}
 
 -- 01: "a longest run of ASCII letters, digits and underscores"; any other byte is a mark
 pub data Token : Type 0 where

@@ -13,11 +13,12 @@ use Rattle.values.specs.declared.Key.{Key}
 use Rattle.values.specs.Refusals.{numberOf}
 use Rattle.values.specs.Flags.{stageFlagsBad, variantFlagsBad}
 use Rattle.values.specs.Entries.{entryGood}
+use Rattle.values.specs.Words.{entryReserved}
 use Rattle.shader.specs.Whole.{wholeText}
 use Rattle.values.specs.declared.Variant.{Variant}
 use Rattle.values.specs.declared.Entry.{Entry}
 use Rattle.values.specs.declared.Emitted.{Emitted}
-use Rattle.values.specs.declared.Refusal.the-variants.{StageFlags, VariantFlags, EntryName, NoRoom}
+use Rattle.values.specs.declared.Refusal.the-variants.{StageFlags, VariantFlags, EntryName, ReservedWord, NoRoom}
 use Rattle.values.specs.declared.Answer.{Answer}
 use Rattle.values.specs.declared.Answer.the-variants.{Text, Refused}
 
@@ -42,27 +43,29 @@ emittedOf k v e =
       warning = warningOf k v;
     }
 
--- 01: "Emission from values .. check 3, 5, 6 and 8 in that order", room being the buffer's length
+-- 01: "Emission from values .. check 3, 5, 6 and 8 in that order"; 02 puts 13 behind 6. room is the buffer's length.
 unfoldable pub answerOf : Key → Variant → Entry → ℕ → Answer
 answerOf k v e room =
     cond (stageFlagsBad (k .stages)) (Refused StageFlags)
     (cond (variantFlagsBad v) (Refused VariantFlags)
     (cond (not (entryGood e)) (Refused EntryName)
-    (cond (ltb room (length (textOf k v e))) (Refused NoRoom) (Text (emittedOf k v e)))))
+    (cond (entryReserved e) (Refused ReservedWord)
+    (cond (ltb room (length (textOf k v e))) (Refused NoRoom) (Text (emittedOf k v e))))))
 
 -- the number of an answer: 0 for a text
 abbrev pub answerNumber : Answer → ℕ
 answerNumber (Text m) = 0
 answerNumber (Refused c) = numberOf c
 
--- the number that 01's table gives: 3 "a stage flag bit 2 to 7", 5 "variant flag bit 6 or 7", 6 for the entry, 8 "text longer than the buffer", in
--- that order; 0 where none of them holds
+-- the number that 01's table gives: 3 "a stage flag bit 2 to 7", 5 "variant flag bit 6 or 7", 6 for the entry, 13 for a
+-- reserved word, 8 "text longer than the buffer", in that order; 0 where none of them holds
 unfoldable pub emissionNumber : Key → Variant → Entry → ℕ → ℕ
 emissionNumber k v e room =
     cond (stageFlagsBad (k .stages)) 3
     (cond (variantFlagsBad v) 5
     (cond (not (entryGood e)) 6
-    (cond (ltb room (length (textOf k v e))) 8 0)))
+    (cond (entryReserved e) 13
+    (cond (ltb room (length (textOf k v e))) 8 0))))
 
 -- 01: "The text begins the lent buffer; bytes behind it stay."
 abbrev pub inFront : List ℕ → List ℕ → List ℕ

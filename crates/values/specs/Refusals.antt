@@ -1,11 +1,11 @@
 -- Why a call is refused: the numbers of 01's table.
 use Prim.Native.Nat.{ℕ}
 use Rattle.values.specs.declared.Refusal.{Refusal}
-use Rattle.values.specs.declared.Refusal.the-variants.{CutShort, UnknownKind, StageFlags, SpecularAdd, VariantFlags, EntryName, EmitTooEarly, NoRoom, InputTooLong}
+use Rattle.values.specs.declared.Refusal.the-variants.{CutShort, UnknownKind, StageFlags, SpecularAdd, VariantFlags, EntryName, EmitTooEarly, NoRoom, InputTooLong, ReservedWord}
 
 -- 1 "no byte, or body cut short", 2 "kind not 1 to 4", 3 "a stage flag bit 2 to 7", 4 "specular above 1", 5 "variant flag bit 6 or 7", 6 what is wrong
 -- with an entry, 7 "emit before key, variant and entry", 8 "text longer than the buffer", or for the writer the record, 9 "program input above 32,768
--- bytes"
+-- bytes"; 02: 13, an entry that is a reserved word
 abbrev pub numberOf : Refusal → ℕ
 numberOf CutShort = 1
 numberOf UnknownKind = 2
@@ -16,3 +16,4 @@ numberOf EntryName = 6
 numberOf EmitTooEarly = 7
 numberOf NoRoom = 8
 numberOf InputTooLong = 9
+numberOf ReservedWord = 13

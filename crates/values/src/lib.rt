@@ -54,7 +54,7 @@ pub struct Emitted {
     pub warning: u8,
 }
 
-// Why a call is refused, in the order of the numbers, 1 to 9.
+// Why a call is refused: 1 to 9 in order, then 13.
 pub enum Refusal {
     CutShort,
     UnknownKind,
@@ -65,6 +65,7 @@ pub enum Refusal {
     EmitTooEarly,
     NoRoom,
     InputTooLong,
+    ReservedWord,
 }
 
 // What emission from values answers.
@@ -87,5 +88,6 @@ pub fn number(refusal: Refusal) -> u8
         Refusal::EmitTooEarly => 7,
         Refusal::NoRoom => 8,
         Refusal::InputTooLong => 9,
+        Refusal::ReservedWord => 13,
     }
 }

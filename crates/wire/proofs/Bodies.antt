@@ -9,6 +9,7 @@ use lib.ListN.{length, take, drop, getD, length-append, length-drop}
 use lib.Seq.{drop-cons, getD-append-add, length-take-le, take-add, take-at}
 use Rattle.values.specs.Flags.{stageFlagsBad, variantFlagsBad}
 use Rattle.values.specs.Entries.{entryGood}
+use Rattle.values.specs.Words.{entryReserved}
 use Rattle.values.specs.declared.Stage.{Stage}
 use Rattle.values.specs.declared.Key.{Key}
 use Rattle.values.specs.declared.Variant.{Variant}
@@ -29,11 +30,11 @@ pub record Shaped (r : Record) : Type 0 where
 abbrev pub Bytes : List ℕ → Type 0
 Bytes b = (i : ℕ) → getD b i 0 < 256
 
--- a record's own value is free of the causes 3, 5 and 6
+-- a record's own value is free of the causes 3, 5, 6 and 13
 abbrev pub Free : Kind → Record → Type 0
 Free kind.Key r = stageFlagsBad (r .key .stages) ≡ false
 Free kind.Variant r = variantFlagsBad (r .variant) ≡ false
-Free kind.Entry r = entryGood (r .entry) ≡ true
+Free kind.Entry r = (entryGood (r .entry) ≡ true) × (entryReserved (r .entry) ≡ false)
 Free kind.Emit r = Unit {0}
 
 -- Lengths.

@@ -10,8 +10,9 @@ use lib.ListN.{length, take, drop, getD, take-append-drop}
 use Rattle.values.specs.Refusals.{numberOf}
 use Rattle.values.specs.Flags.{stageFlagsBad, variantFlagsBad}
 use Rattle.values.specs.Entries.{entryGood}
+use Rattle.values.specs.Words.{entryReserved}
 use Rattle.values.specs.declared.Refusal.{Refusal}
-use Rattle.values.specs.declared.Refusal.the-variants.{CutShort, UnknownKind, StageFlags, SpecularAdd, VariantFlags, EntryName}
+use Rattle.values.specs.declared.Refusal.the-variants.{CutShort, UnknownKind, StageFlags, SpecularAdd, VariantFlags, EntryName, ReservedWord}
 use Rattle.values.specs.declared.Key.{Key}
 use Rattle.values.specs.declared.Variant.{Variant}
 use Rattle.values.specs.declared.Entry.{Entry}
@@ -75,9 +76,10 @@ module _ (P : Reading → Type 0) (x : ℕ) (b : List ℕ) (cases : Cases P (x �
       cases .variant (variantFromBody b)
       (taken x b (variantRecord (variantFromBody b)) n e h (variant-shaped _) f (λ w. variant-again b w h)))
   body-cases kind.Entry e h =
-      either Q (entryGood (entryFromBody b)) _ _ _ _ (λ f n.
+      either Q (entryGood (entryFromBody b)) _ _ _ _ (λ f.
+      either Q (entryReserved (entryFromBody b)) _ _ _ _ (λ _. cases .refusal ReservedWord) (λ g n.
       cases .entry (entryFromBody b)
-      (taken x b (entryRecord (entryFromBody b)) n e h (entry-shaped _ (name-length b h)) f (λ w. entry-again b h)))
+      (taken x b (entryRecord (entryFromBody b)) n e h (entry-shaped _ (name-length b h)) (f, g) (λ w. entry-again b h))))
       (λ _. cases .refusal EntryName)
   body-cases kind.Emit e h = λ n. cases .emit (taken x b emitRecord n e h emit-shaped tt (λ w. refl))
 

@@ -47,7 +47,7 @@ module _ (r : Record) (x : List ℕ) (h : Shaped r) where
   unfolding readBody bodyBytes ownAs
   body-reads kind.Key f = rw (key-back (r .key) x (h .stages), f, specular-back (r .key) x (h .stages))
   body-reads kind.Variant f = rw (variant-back (r .variant) x, f)
-  body-reads kind.Entry f = rw (entry-back (r .entry) x (h .name), f)
+  body-reads kind.Entry f = rw (entry-back (r .entry) x (h .name), f .0, f .1)
   body-reads kind.Emit f = refl
 
   as-reads : (k : Kind) → Free k r → readAs k (bodyBytes k r ++ x) ≡ took (ownAs k r)

@@ -7,8 +7,9 @@ use lib.Dec.{ltb}
 use Rattle.values.specs.Refusals.{numberOf}
 use Rattle.values.specs.Flags.{stageFlagsBad, variantFlagsBad}
 use Rattle.values.specs.Entries.{entryGood}
+use Rattle.values.specs.Words.{entryReserved}
 use Rattle.values.specs.declared.Refusal.{Refusal}
-use Rattle.values.specs.declared.Refusal.the-variants.{StageFlags, VariantFlags, EntryName, NoRoom}
+use Rattle.values.specs.declared.Refusal.the-variants.{StageFlags, VariantFlags, EntryName, ReservedWord, NoRoom}
 use Rattle.wire.specs.Bodies.{recordLength}
 use Rattle.wire.specs.Writing.{writeAs, writeInto, writeAnswer, writeNumber, valueNumber, writtenNumber}
 use Rattle.wire.specs.declared.Kind.{Kind}
@@ -24,7 +25,7 @@ pub free-writes : (k : Kind) (r : Record) (a : WriteAnswer) → r .kind ≡ k �
 unfolding writeAs
 free-writes kind.Key r a e f = rw (e, f)
 free-writes kind.Variant r a e f = rw (e, f)
-free-writes kind.Entry r a e f = rw (e, f)
+free-writes kind.Entry r a e f = rw (e, f .0, f .1)
 free-writes kind.Emit r a e f = rw e
 
 -- and with room for it
@@ -37,7 +38,8 @@ value-cases : (Q : ℕ → WriteAnswer → Type 0) (k : Kind) (r : Record) (n : 
 unfolding valueNumber writeAs
 value-cases Q kind.Key r n a p q = either Q (stageFlagsBad (r .key .stages)) _ _ _ _ (λ _. p StageFlags) q
 value-cases Q kind.Variant r n a p q = either Q (variantFlagsBad (r .variant)) _ _ _ _ (λ _. p VariantFlags) q
-value-cases Q kind.Entry r n a p q = either Q (entryGood (r .entry)) _ _ _ _ q (λ _. p EntryName)
+value-cases Q kind.Entry r n a p q =
+    either Q (entryGood (r .entry)) _ _ _ _ (λ e. either Q (entryReserved (r .entry)) _ _ _ _ (λ _. p ReservedWord) (λ f. q (e, f))) (λ _. p EntryName)
 value-cases Q kind.Emit r n a p q = q tt
 
 -- what is known of the record that was written into a buffer of a length

@@ -1,4 +1,4 @@
--- Reading the record at the front of some bytes, and its refusals 1 to 6.
+-- Reading the record at the front of some bytes, and its refusals 1 to 6 and 13.
 -- 01: "Reading a record is a call without held values"
 use Prim.Native.Nat.{ℕ}
 use mathlib.Core.Bool.{cond}
@@ -8,8 +8,9 @@ use lib.ListN.{length}
 use Rattle.values.specs.Refusals.{numberOf}
 use Rattle.values.specs.Flags.{stageFlagsBad, variantFlagsBad}
 use Rattle.values.specs.Entries.{entryGood}
+use Rattle.values.specs.Words.{entryReserved}
 use Rattle.values.specs.declared.Refusal.{Refusal}
-use Rattle.values.specs.declared.Refusal.the-variants.{CutShort, UnknownKind, StageFlags, SpecularAdd, VariantFlags, EntryName}
+use Rattle.values.specs.declared.Refusal.the-variants.{CutShort, UnknownKind, StageFlags, SpecularAdd, VariantFlags, EntryName, ReservedWord}
 use Rattle.wire.specs.Bodies.{kindByte, bodyLength, recordLength, specularByte, keyFromBody, variantFromBody, entryFromBody}
 use Rattle.wire.specs.Values.{keyRecord, variantRecord, entryRecord, emitRecord}
 use Rattle.wire.specs.declared.Kind.{Kind}
@@ -36,13 +37,16 @@ refused c = record { answer = Refused c; found = emitRecord }
 abbrev pub took : Record → Reading
 took r = record { answer = Took (recordLength (r .kind)); found = r }
 
--- 3, "a stage flag bit 2 to 7", before 4, "specular above 1"; 5, "variant flag bit 6 or 7"; 6, what is wrong with an entry
+-- 3, "a stage flag bit 2 to 7", before 4, "specular above 1"; 5, "variant flag bit 6 or 7"; 6, what is wrong with an entry, before 13, a word that it may
+-- not be
 unfoldable pub readBody : Kind → List ℕ → Reading
 readBody kind.Key b =
     cond (stageFlagsBad (keyFromBody b .stages)) (refused StageFlags)
     (cond (ltb 1 (specularByte b)) (refused SpecularAdd) (took (keyRecord (keyFromBody b))))
 readBody kind.Variant b = cond (variantFlagsBad (variantFromBody b)) (refused VariantFlags) (took (variantRecord (variantFromBody b)))
-readBody kind.Entry b = cond (entryGood (entryFromBody b)) (took (entryRecord (entryFromBody b))) (refused EntryName)
+readBody kind.Entry b =
+    cond (entryGood (entryFromBody b))
+    (cond (entryReserved (entryFromBody b)) (refused ReservedWord) (took (entryRecord (entryFromBody b)))) (refused EntryName)
 readBody kind.Emit b = took emitRecord
 
 -- 1: "body cut short"
@@ -65,7 +69,7 @@ readNumber (Refused c) = numberOf c
 unfoldable pub bodyNumber : Kind → List ℕ → ℕ
 bodyNumber kind.Key b = cond (stageFlagsBad (keyFromBody b .stages)) 3 (cond (ltb 1 (specularByte b)) 4 0)
 bodyNumber kind.Variant b = cond (variantFlagsBad (variantFromBody b)) 5 0
-bodyNumber kind.Entry b = cond (entryGood (entryFromBody b)) 0 6
+bodyNumber kind.Entry b = cond (entryGood (entryFromBody b)) (cond (entryReserved (entryFromBody b)) 13 0) 6
 bodyNumber kind.Emit b = 0
 
 unfoldable pub recordNumber : List ℕ → ℕ

@@ -1,4 +1,4 @@
--- Writing a record at the front of a lent buffer, and its refusals 3, 5, 6 and 8.
+-- Writing a record at the front of a lent buffer, and its refusals 3, 5, 6, 13 and 8.
 use Prim.Native.Nat.{ℕ}
 use mathlib.Core.Bool.{cond}
 use mathlib.Core.List.{List, _++_}
@@ -7,7 +7,8 @@ use lib.ListN.{length, drop}
 use Rattle.values.specs.Refusals.{numberOf}
 use Rattle.values.specs.Flags.{stageFlagsBad, variantFlagsBad}
 use Rattle.values.specs.Entries.{entryGood}
-use Rattle.values.specs.declared.Refusal.the-variants.{StageFlags, VariantFlags, EntryName, NoRoom}
+use Rattle.values.specs.Words.{entryReserved}
+use Rattle.values.specs.declared.Refusal.the-variants.{StageFlags, VariantFlags, EntryName, ReservedWord, NoRoom}
 use Rattle.wire.specs.Bodies.{recordLength}
 use Rattle.wire.specs.declared.Kind.{Kind}
 use Rattle.wire.specs.declared.Kind.the-variants as kind
@@ -17,11 +18,11 @@ use Rattle.wire.specs.declared.WriteAnswer.the-variants.{Wrote, Refused}
 
 -- What is answered.
 
--- 3, 5 or 6 of a record's own value, else what is answered without them. Specular "is a yes or no there, so 4 cannot occur".
+-- 3, 5, 6 or 13 of a record's own value, else what is answered without them. Specular "is a yes or no there, so 4 cannot occur".
 unfoldable pub writeAs : Kind → Record → WriteAnswer → WriteAnswer
 writeAs kind.Key r other = cond (stageFlagsBad (r .key .stages)) (Refused StageFlags) other
 writeAs kind.Variant r other = cond (variantFlagsBad (r .variant)) (Refused VariantFlags) other
-writeAs kind.Entry r other = cond (entryGood (r .entry)) other (Refused EntryName)
+writeAs kind.Entry r other = cond (entryGood (r .entry)) (cond (entryReserved (r .entry)) (Refused ReservedWord) other) (Refused EntryName)
 writeAs kind.Emit r other = other
 
 -- 8: "for the writer 8 is a buffer shorter than the record"; room is the buffer's length
@@ -48,7 +49,7 @@ writeNumber (Refused c) = numberOf c
 unfoldable pub valueNumber : Kind → Record → ℕ → ℕ
 valueNumber kind.Key r other = cond (stageFlagsBad (r .key .stages)) 3 other
 valueNumber kind.Variant r other = cond (variantFlagsBad (r .variant)) 5 other
-valueNumber kind.Entry r other = cond (entryGood (r .entry)) other 6
+valueNumber kind.Entry r other = cond (entryGood (r .entry)) (cond (entryReserved (r .entry)) 13 other) 6
 valueNumber kind.Emit r other = other
 
 abbrev pub writtenNumber : Record → ℕ → ℕ

@@ -15,6 +15,7 @@ use crate::make::key_record;
 use crate::make::variant_record;
 use crate::record_length;
 use admission::entry_good;
+use admission::entry_reserved;
 use admission::stage_flags_bad;
 use admission::variant_flags_bad;
 use values::Combiner;
@@ -193,6 +194,9 @@ fn read_entry(body: &[u8]) -> Reading
     let entry = entry_from_body(body);
     if !entry_good(entry) {
         return refuse(Refusal::EntryName);
+    }
+    if entry_reserved(entry) {
+        return refuse(Refusal::ReservedWord);
     }
     take_record(entry_record(entry))
 }

@@ -8,6 +8,7 @@ use crate::Record;
 use crate::WriteAnswer;
 use crate::record_length;
 use admission::entry_good;
+use admission::entry_reserved;
 use admission::stage_flags_bad;
 use admission::variant_flags_bad;
 use text::put;
@@ -156,6 +157,9 @@ fn judge(made: Record, room: usize) -> WriteAnswer
         Kind::Entry => {
             if !entry_good(entry) {
                 return WriteAnswer::Refused(Refusal::EntryName);
+            }
+            if entry_reserved(entry) {
+                return WriteAnswer::Refused(Refusal::ReservedWord);
             }
         }
         Kind::Emit => {}

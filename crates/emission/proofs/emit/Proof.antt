@@ -1,10 +1,11 @@
--- The first check that refuses gives the table's first cause; values that pass all three are admitted, and `emit_checked` says the rest.
-use mathlib.Core.Bool.{false}
+-- The first check that refuses gives the table's first cause; values that pass all four are admitted, and `emit_checked` says the rest.
+use mathlib.Core.Bool.{true, false}
 use mathlib.Core.Path.{_≡_, refl, sym, _∙_}
 use borrow.Author.Needs.{needs}
 use borrow.Author.Tests.{not-true, not-false}
 use Rattle.values.specs.Flags.{stageFlagsBad, variantFlagsBad}
-use Rattle.emission.proofs.Answers.{stage-flags, variant-flags, entry-name, numbered}
+use Rattle.values.specs.Entries.{entryGood}
+use Rattle.emission.proofs.Answers.{stage-flags, variant-flags, entry-name, reserved-word, numbered}
 use Rattle.emission.proofs.emit.Statement.{statement}
 use Rattle.emission.proofs.emit.Tie as tie
 
@@ -14,6 +15,9 @@ stages-pass c = sym (c .before .stage-flags-bad .ensures) ∙ c .if1 .left
 
 variant-passes : (c : tie.Else2) → variantFlagsBad (c .before .before .before .before .before .args .variant) ≡ false
 variant-passes c = sym (c .before .variant-flags-bad .ensures) ∙ c .if2 .left
+
+entry-passes : (c : tie.Else3) → entryGood (c .before .before .before .before .before .before .before .args .entry) ≡ true
+entry-passes c = sym (c .before .entry-good .ensures) ∙ not-false _ (c .if3 .left)
 
 returns : tie.Need-returns
 returns c =
@@ -32,14 +36,23 @@ returns-3 c =
     let a = entry-name _ _ _ _ (stages-pass (s2 .before .before)) (variant-passes s2) bad in
     (a, (refl, (tt, numbered _ _ _ _ a)))
 
+returns-4 : tie.Need-returns-4
+returns-4 c =
+    let s3 = c .before .before in
+    let s2 = s3 .before .before in
+    let a = reserved-word _ _ _ _ (stages-pass (s2 .before .before)) (variant-passes s2) (entry-passes s3) (sym (c .before .entry-reserved .ensures) ∙ c .if4 .taken) in
+    (a, (refl, (tt, numbered _ _ _ _ a)))
+
 emit-checked-requires : tie.Need-emit-checked-requires
 emit-checked-requires c κs =
-    let s3 = c .before in
+    let s4 = c .before in
+    let s3 = s4 .before .before in
     let s2 = s3 .before .before in
     record {
       stageFlags = stages-pass (s2 .before .before);
       variantFlags = variant-passes s2;
-      entryName = sym (s3 .before .entry-good .ensures) ∙ not-false _ (s3 .if3 .left);
+      entryName = entry-passes s3;
+      entryWord = sym (s4 .before .entry-reserved .ensures) ∙ s4 .if4 .left;
     }
 
 pub emit-spec : {M : Type 1} → statement M
@@ -52,6 +65,8 @@ emit-spec =
     returns-2
     (λ c κs. tt)
     returns-3
+    (λ c κs. tt)
+    returns-4
     emit-checked-requires
     (λ c. search needs)
     (λ c. c .before .before .emit-checked .ensures))

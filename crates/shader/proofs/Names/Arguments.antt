@@ -10,7 +10,7 @@ use Rattle.combiners.specs.Arguments.{texelName, constantRow, sourceText, repli
 use Rattle.combiners.specs.declared.Source.{Source}
 use Rattle.combiners.specs.declared.Source.the-variants.{Diffuse, Current, Texture, Factor, Specular, Temp, Constant, White}
 use Rattle.combiners.specs.declared.Arg.{Arg}
-use Rattle.shader.specs.Names.{Name, name}
+use Rattle.values.specs.Listed.{Name, name}
 use Rattle.shader.proofs.Names.Check.{Aim, Known, Holds}
 use Rattle.shader.proofs.Names.Frag.{Has, literal, Frag, closed, followed, pick-frag, append}
 use Rattle.shader.proofs.Names.Words.{the, Word, family, name-frag, row-scan}

@@ -5,7 +5,8 @@ use mathlib.Core.List.{List, [], _∷_, _++_, append-nil}
 use mathlib.Core.Bool.{Bool, true, false, _&&_, _||_, cond}
 use native.Mathlib.Omega.{arith}
 use lib.Dec.{T, eqb, eqb→eq, eqb-refl}
-use Rattle.shader.specs.Names.{Name, name, Occurrence, declaration, usage, row}
+use Rattle.values.specs.Listed.{Name, name}
+use Rattle.shader.specs.Names.{Occurrence, declaration, usage, row}
 use Rattle.shader.specs.Demand.{sameName, declared, isTexel, texels}
 use Rattle.shader.proofs.Names.Truth.{and-fst, and-snd, both, inl}
 

@@ -7,7 +7,8 @@ use native.Mathlib.Omega.{arith}
 use lib.Dec.{T}
 use Rattle.text.specs.Text.{Text, _⊕_, pick, flat}
 use Rattle.values.specs.Entries.{continuesName}
-use Rattle.shader.specs.Names.{Name, Token, tokens, Occurrence, declaration, usage, row}
+use Rattle.values.specs.Listed.{Name}
+use Rattle.shader.specs.Names.{Token, tokens, Occurrence, declaration, usage, row}
 use Rattle.shader.specs.Demand.{sameName, isTexel}
 use Rattle.shader.proofs.Names.Truth.{inr, false-of}
 use Rattle.shader.proofs.Names.Scan.{scan, breaks}

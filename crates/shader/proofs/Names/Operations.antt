@@ -16,7 +16,8 @@ use Rattle.combiners.specs.Arguments.{texelName}
 use Rattle.combiners.specs.Combiners.{opCodes, look, opOf, template, opText, hasText, keepsFirst, keepsSecond, readsOwnTexel}
 use Rattle.combiners.specs.declared.Op.{Op}
 use Rattle.combiners.specs.declared.Op.the-variants.{Other}
-use Rattle.shader.specs.Names.{Name, tokens, Occurrence, declaration, usage, row}
+use Rattle.values.specs.Listed.{Name}
+use Rattle.shader.specs.Names.{tokens, Occurrence, declaration, usage, row}
 use Rattle.shader.specs.Demand.{sameName}
 use Rattle.shader.proofs.Names.Truth.{and-fst, and-snd, inl, inr, either, below, below-at}
 use Rattle.shader.proofs.Names.Scan.{scan}

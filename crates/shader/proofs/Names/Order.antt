@@ -7,7 +7,7 @@ use Rattle.text.specs.Text.{bytes, flat}
 use Rattle.shader.specs.Lookups.{textureName, samplerName, coordinateText}
 use Rattle.shader.specs.declared.Coordinate.{Coordinate}
 use Rattle.shader.specs.declared.Coordinate.the-variants.{Interpolated, Divided, Displaced, Projected}
-use Rattle.shader.specs.Names.{Name, name}
+use Rattle.values.specs.Listed.{Name, name}
 use Rattle.shader.proofs.Names.Check.{Aim}
 use Rattle.shader.proofs.Names.Words.{the, Word, family}
 

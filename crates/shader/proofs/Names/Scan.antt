@@ -9,7 +9,8 @@ use lib.ListN.{length}
 use Rattle.text.specs.Text.{bytes}
 use Rattle.text.specs.Format.{same}
 use Rattle.values.specs.Entries.{continuesName}
-use Rattle.shader.specs.Names.{Name, Token, word, mark, joined, tokens, starts, isName, declares, Occurrence, rowBehind, occurrenceOf, listed, foundAt, occursIn}
+use Rattle.values.specs.Listed.{Name, listed}
+use Rattle.shader.specs.Names.{Token, word, mark, joined, tokens, starts, isName, declares, Occurrence, rowBehind, occurrenceOf, foundAt, occursIn}
 use Rattle.shader.proofs.Names.Truth.{true-of, false-of, and-fst, and-snd, neither-fst, neither-snd, cond-cases, either}
 
 -- the tokens b end as the tokens of some front of s do

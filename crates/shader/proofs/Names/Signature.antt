@@ -15,7 +15,7 @@ use Rattle.values.specs.declared.Variant.{Variant}
 use Rattle.shader.specs.declared.TextureType.{TextureType}
 use Rattle.shader.specs.declared.TextureType.the-variants.{Depth, Volume, Cube, Flat}
 use Rattle.shader.specs.declared.Coordinate.the-variants.{Interpolated}
-use Rattle.shader.specs.Names.{Name}
+use Rattle.values.specs.Listed.{Name}
 use Rattle.shader.specs.Demand.{sameName, isTexel}
 use Rattle.shader.proofs.Names.Truth.{false-of, inr, either}
 use Rattle.shader.proofs.Names.Check.{Aim, Known, add, declaring, nothing, add-self, same→eq}

@@ -7,7 +7,8 @@ use mathlib.Core.Bool.{Bool, true, false, not, _&&_, _||_}
 use lib.Dec.{T, eqb, eqb→eq}
 use Rattle.text.specs.Text.{Text, bytes, raw, _⊕_, pick, flat}
 use Rattle.text.specs.Format.{Piece, words, slot, cut, same}
-use Rattle.shader.specs.Names.{Name, Token, tokens, follows, declares, Occurrence, declaration, usage, row}
+use Rattle.values.specs.Listed.{Name}
+use Rattle.shader.specs.Names.{Token, tokens, follows, declares, Occurrence, declaration, usage, row}
 use Rattle.shader.proofs.Names.Truth.{and-fst, and-snd, inl, inr, either}
 use Rattle.shader.proofs.Names.Scan.{scan, breaks, ended, after, settled, tokens-append, scan-append}
 use Rattle.shader.proofs.Names.Check.{Aim, Known, Holds, declaring}

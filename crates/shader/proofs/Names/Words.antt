@@ -10,7 +10,8 @@ use lib.Dec.{T, ltb, ltb→lt}
 use Rattle.text.specs.Text.{Text, raw, bytes, flat, decimalOf}
 use Rattle.text.specs.Format.{same}
 use Rattle.values.specs.Entries.{isDigit, continuesName}
-use Rattle.shader.specs.Names.{Name, name, Token, word, mark, tokens, follows, startsDigit, declares, Occurrence, declaration, usage, row, numberFrom, rowOf, listed}
+use Rattle.values.specs.Listed.{Name, name, listed}
+use Rattle.shader.specs.Names.{Token, word, mark, tokens, follows, startsDigit, declares, Occurrence, declaration, usage, row, numberFrom, rowOf}
 use Rattle.shader.specs.Demand.{sameName}
 use Rattle.shader.proofs.Names.Truth.{true-of, false-of, and-fst, and-snd, both, inr, below, below-at, cond-cases}
 use Rattle.shader.proofs.Names.Scan.{scan, breaks, letters, matters, ended, tokens-append, tokens-letters}

@@ -21,28 +21,37 @@ unfolding writeAs
 returns-3 c = rw (c .before .before .enum-told3 .given .1, sym (c .before .entry-good .ensures) ∙ not-true _ (c .if3 .taken))
 
 returns-4 : tie.Need-returns-4
+unfolding writeAs
 returns-4 c =
-    let s = c .before .before in
-    s .before .before .judge-room .ensures
-    ∙ free-writes kind.Key _ _ (s .enum-told .given .1) (sym (c .before .stage-flags-bad .ensures) ∙ c .if1 .left)
+    let s3 = c .before .before in
+    let s = s3 .before .before in
+    rw (s .enum-told3 .given .1, sym (s3 .before .entry-good .ensures) ∙ not-false _ (s3 .if3 .left), sym (c .before .entry-reserved .ensures) ∙ c .if4 .taken)
 
 returns-5 : tie.Need-returns-5
 returns-5 c =
     let s = c .before .before in
     s .before .before .judge-room .ensures
-    ∙ free-writes kind.Variant _ _ (s .enum-told2 .given .1) (sym (c .before .variant-flags-bad .ensures) ∙ c .if2 .left)
+    ∙ free-writes kind.Key _ _ (s .enum-told .given .1) (sym (c .before .stage-flags-bad .ensures) ∙ c .if1 .left)
 
 returns-6 : tie.Need-returns-6
 returns-6 c =
     let s = c .before .before in
     s .before .before .judge-room .ensures
-    ∙ free-writes kind.Entry _ _ (s .enum-told3 .given .1) (sym (c .before .entry-good .ensures) ∙ not-false _ (c .if3 .left))
+    ∙ free-writes kind.Variant _ _ (s .enum-told2 .given .1) (sym (c .before .variant-flags-bad .ensures) ∙ c .if2 .left)
 
 returns-7 : tie.Need-returns-7
-returns-7 c = c .before .before .judge-room .ensures ∙ free-writes kind.Emit _ _ (c .enum-told4 .given .1) tt
+returns-7 c =
+    let s3 = c .before .before in
+    let s = s3 .before .before in
+    s .before .before .judge-room .ensures
+    ∙ free-writes kind.Entry _ _ (s .enum-told3 .given .1)
+    (sym (s3 .before .entry-good .ensures) ∙ not-false _ (s3 .if3 .left), sym (c .before .entry-reserved .ensures) ∙ c .if4 .left)
+
+returns-8 : tie.Need-returns-8
+returns-8 c = c .before .before .judge-room .ensures ∙ free-writes kind.Emit _ _ (c .enum-told4 .given .1) tt
 
 pub judge-spec : {M : Type 1} → statement M
 judge-spec =
     tie.close
     (tie.spec (λ c κs. tt) (λ c. search needs) (λ c κs. tt) returns (λ c. search needs) (λ c κs. tt) returns-2
-    (λ c. search needs) (λ c κs. tt) returns-3 (λ c. search needs) returns-4 returns-5 returns-6 returns-7)
+    (λ c. search needs) (λ c κs. tt) returns-3 (λ c κs. tt) returns-4 (λ c. search needs) returns-5 returns-6 returns-7 returns-8)
