@@ -9,6 +9,7 @@ use lib.Dec.{eqb, ltb}
 use lib.ListN.{length, getD}
 use Rattle.values.specs.Flags.{stageFlagsBad, variantFlagsBad}
 use Rattle.values.specs.Entries.{entryGood}
+use Rattle.values.specs.Words.{entryReserved}
 use Rattle.shader.proofs.Length.{never-eight}
 use Rattle.wire.specs.Bodies.{bodyLength, specularByte, keyFromBody, variantFromBody, entryFromBody}
 use Rattle.wire.specs.Values.{blankKey}
@@ -57,7 +58,7 @@ body-number : (k : Kind) (b : List ℕ) → NotEight (bodyNumber k b)
 unfolding bodyNumber
 body-number kind.Key b = neither (stageFlagsBad (keyFromBody b .stages)) 3 _ refl (neither (ltb 1 (specularByte b)) 4 0 refl refl)
 body-number kind.Variant b = neither (variantFlagsBad (variantFromBody b)) 5 0 refl refl
-body-number kind.Entry b = neither (entryGood (entryFromBody b)) 0 6 refl refl
+body-number kind.Entry b = neither (entryGood (entryFromBody b)) _ 6 (neither (entryReserved (entryFromBody b)) 13 0 refl refl) refl
 body-number kind.Emit b = refl
 
 record-number : (b : List ℕ) → NotEight (recordNumber b)

@@ -9,13 +9,14 @@ use lib.ListN.{length}
 use Rattle.values.specs.Refusals.{numberOf}
 use Rattle.values.specs.Flags.{stageFlagsBad, variantFlagsBad}
 use Rattle.values.specs.Entries.{entryGood}
+use Rattle.values.specs.Words.{entryReserved}
 use Rattle.values.specs.Admitted.{Admitted}
 use Rattle.values.specs.declared.Key.{Key}
 use Rattle.values.specs.declared.Variant.{Variant}
 use Rattle.values.specs.declared.Entry.{Entry}
 use Rattle.values.specs.declared.Emitted.{Emitted}
 use Rattle.values.specs.declared.Refusal.{Refusal}
-use Rattle.values.specs.declared.Refusal.the-variants.{StageFlags, VariantFlags, EntryName, NoRoom}
+use Rattle.values.specs.declared.Refusal.the-variants.{StageFlags, VariantFlags, EntryName, ReservedWord, NoRoom}
 use Rattle.values.specs.declared.Answer.{Answer}
 use Rattle.values.specs.declared.Answer.the-variants.{Text, Refused}
 use Rattle.shader.specs.Results.{emittedOf, textOf, answerOf, answerNumber, emissionNumber, bufferAfter}
@@ -47,18 +48,21 @@ module _ (k : Key) (v : Variant) (e : Entry) (out res : List ℕ) where
       let p′ = rw g at p in
       (q ∙ p′ .1 .1 .1, (p′ .1 .0 ∙ left _ out h, (left _ res h, λ z. absurd (h z))))
 
-  picked : (three five six eight : Bool) (x m : Emitted) →
-      cond three (Refused StageFlags) (cond five (Refused VariantFlags) (cond six (Refused EntryName) (cond eight (Refused NoRoom) (Text x)))) ≡ Text m
+  picked : (three five six thirteen eight : Bool) (x m : Emitted) →
+      cond three (Refused StageFlags) (cond five (Refused VariantFlags) (cond six (Refused EntryName) (cond thirteen (Refused ReservedWord)
+      (cond eight (Refused NoRoom) (Text x))))) ≡ Text m
       → m ≡ x
-  picked true five six eight x m g = cc
-  picked false true six eight x m g = cc
-  picked false false true eight x m g = cc
-  picked false false false true x m g = cc
-  picked false false false false x m g = cc
+  picked true five six thirteen eight x m g = cc
+  picked false true six thirteen eight x m g = cc
+  picked false false true thirteen eight x m g = cc
+  picked false false false true eight x m g = cc
+  picked false false false false true x m g = cc
+  picked false false false false false x m g = cc
 
   accepted : {m : Emitted} → answerOf k v e (length out) ≡ Text m → m ≡ emittedOf k v e
   unfolding answerOf
-  accepted g = picked (stageFlagsBad (k .stages)) (variantFlagsBad v) (not (entryGood e)) (ltb (length out) (length (textOf k v e))) _ _ g
+  accepted g =
+      picked (stageFlagsBad (k .stages)) (variantFlagsBad v) (not (entryGood e)) (entryReserved e) (ltb (length out) (length (textOf k v e))) _ _ g
 
   pub emission-accepted : {a : Answer} {out′ res′ : List ℕ} {m : Emitted} → Promise a out′ → a ≡ Text m → res′ ≡ resultNumbers m → Emits 0 out′ res′
   emission-accepted p g q =
@@ -73,8 +77,8 @@ ofKey three four = cond three 3 (cond four 4 0)
 abbrev ofVariant : Bool → ℕ
 ofVariant five = cond five 5 0
 
-abbrev ofEntry : Bool → ℕ
-ofEntry good = cond good 0 6
+abbrev ofEntry : Bool → Bool → ℕ
+ofEntry good word = cond good (cond word 13 0) 6
 
 key-bits : (three four : Bool) → ofKey three four ≡ 0 → three ≡ false
 key-bits true four e = absurd (omega arith)
@@ -84,16 +88,19 @@ variant-bits : (five : Bool) → ofVariant five ≡ 0 → five ≡ false
 variant-bits true e = absurd (omega arith)
 variant-bits false e = refl
 
-entry-bits : (good : Bool) → ofEntry good ≡ 0 → good ≡ true
-entry-bits true e = refl
-entry-bits false e = absurd (omega arith)
+entry-bits : (good word : Bool) → ofEntry good word ≡ 0 → (good ≡ true) × (word ≡ false)
+entry-bits true false e = (refl, refl)
+entry-bits true true e = absurd (omega arith)
+entry-bits false word e = absurd (omega arith)
 
-table : (three four five good eight : Bool) → ofKey three four ≡ 0 →
-    cond three 3 (cond five 5 (cond (not good) 6 (cond eight 8 0))) ≡ firstOf (ofVariant five) (firstOf (ofEntry good) (cond eight 8 0))
-table true four five good eight e = absurd (omega arith)
-table false four true good eight e = refl
-table false four false true eight e = refl
-table false four false false eight e = refl
+table : (three four five good word eight : Bool) → ofKey three four ≡ 0 →
+    cond three 3 (cond five 5 (cond (not good) 6 (cond word 13 (cond eight 8 0))))
+    ≡ firstOf (ofVariant five) (firstOf (ofEntry good word) (cond eight 8 0))
+table true four five good word eight e = absurd (omega arith)
+table false four true good word eight e = refl
+table false four false true true eight e = refl
+table false four false true false eight e = refl
+table false four false false word eight e = refl
 
 module _ (k v e : List ℕ) where
   pub admitted : bodyNumber kind.Key k ≡ 0 → bodyNumber kind.Variant v ≡ 0 → bodyNumber kind.Entry e ≡ 0 →
@@ -103,7 +110,8 @@ module _ (k v e : List ℕ) where
       record {
         stageFlags = key-bits (stageFlagsBad (keyFromBody k .stages)) (ltb 1 (specularByte k)) p;
         variantFlags = variant-bits (variantFlagsBad (variantFromBody v)) q;
-        entryName = entry-bits (entryGood (entryFromBody e)) r;
+        entryName = entry-bits (entryGood (entryFromBody e)) (entryReserved (entryFromBody e)) r .0;
+        entryWord = entry-bits (entryGood (entryFromBody e)) (entryReserved (entryFromBody e)) r .1;
       }
 
   -- emission's causes behind those of the key
@@ -113,7 +121,7 @@ module _ (k v e : List ℕ) where
   unfolding bodyNumber emissionNumber
   behind-key room p =
       table (stageFlagsBad (keyFromBody k .stages)) (ltb 1 (specularByte k)) (variantFlagsBad (variantFromBody v)) (entryGood (entryFromBody e))
-      (ltb room (length (bodiesText k v e))) p
+      (entryReserved (entryFromBody e)) (ltb room (length (bodiesText k v e))) p
 
   -- what yuzuknoll_emit promises
   module _ (out res : List ℕ) where

@@ -1,7 +1,8 @@
-//! The causes 1 to 6 of a record, found on its bytes: no value is made of them.
+//! The causes 1 to 6 and 13 of a record, found on its bytes: no value is made of them.
 use crate::ACCEPTED;
 use crate::refuse;
 use admission::entry_good;
+use admission::entry_reserved;
 use values::Refusal;
 use wire::KIND_EMIT;
 use wire::KIND_ENTRY;
@@ -58,8 +59,12 @@ pub(crate) fn entry_number(body: &[u8]) -> u64
     requires { ⌜ bodyLength Kind.Entry ≤ length (now body) ⌝ }
     ensures { λ r. ⌜ r ≡ bodyNumber Kind.Entry (now (body .entry)) ⌝ }
 {
-    if !entry_good(entry_from_body(body)) {
+    let entry = entry_from_body(body);
+    if !entry_good(entry) {
         return refuse(Refusal::EntryName);
+    }
+    if entry_reserved(entry) {
+        return refuse(Refusal::ReservedWord);
     }
     ACCEPTED
 }

@@ -3,6 +3,7 @@
 mod apply;
 mod check;
 mod emit;
+mod entry;
 mod read;
 mod write;
 

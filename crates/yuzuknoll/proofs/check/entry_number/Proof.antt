@@ -1,4 +1,4 @@
--- The test is the one that the entry's number goes by.
+-- The tests are those that the entry's number goes by.
 use mathlib.Core.Path.{sym, _∙_}
 use borrow.Author.Tests.{not-true, not-false}
 use Rattle.wire.specs.Reading.{bodyNumber}
@@ -16,8 +16,26 @@ returns c =
 returns-2 : tie.Need-returns-2
 unfolding bodyNumber
 returns-2 c =
-    let good = c .before in
-    rw (← good .before .entry-from-body .ensures, sym (good .entry-good .ensures) ∙ not-false _ (c .if1 .left))
+    let s2 = c .before in
+    let word = s2 .before in
+    let good = word .before .before in
+    rw (
+      ← good .before .entry-from-body .ensures,
+      sym (good .entry-good .ensures) ∙ not-false _ (word .before .if1 .left),
+      sym (word .entry-reserved .ensures) ∙ s2 .if2 .taken,
+    )
+    (c .refuse2 .ensures)
+
+returns-3 : tie.Need-returns-3
+unfolding bodyNumber
+returns-3 c =
+    let word = c .before in
+    let good = word .before .before in
+    rw (
+      ← good .before .entry-from-body .ensures,
+      sym (good .entry-good .ensures) ∙ not-false _ (word .before .if1 .left),
+      sym (word .entry-reserved .ensures) ∙ c .if2 .left,
+    )
 
 pub entry-number-spec : {M : Type 1} → statement M
-entry-number-spec = tie.close (tie.spec (λ c κs. search needs) (λ c κs. tt) (λ c κs. tt) returns returns-2)
+entry-number-spec = tie.close (tie.spec (λ c κs. search needs) (λ c κs. tt) (λ c κs. tt) returns (λ c κs. tt) (λ c κs. tt) returns-2 returns-3)
