@@ -19,9 +19,9 @@
  * The library needs no set-up, keeps nothing between calls and allocates no memory. Threads may call it at the same
  * time, as long as no call writes to memory that another one uses.
  *
- * Every call returns YUZUKNOLL_ACCEPTED (0) or the number of a refusal. On refusal nothing is modified: no buffer and
- * no struct. No pointer may be null, not even one to a buffer of length 0. What a call writes must not overlap anything
- * else that is passed to the same call.
+ * Every call but those that check an entry byte by byte returns YUZUKNOLL_ACCEPTED (0) or the number of a refusal. On
+ * refusal nothing is modified: no buffer and no struct. No pointer may be null, not even one to a buffer of length 0. What
+ * a call writes must not overlap anything else that is passed to the same call.
  */
 #ifndef YUZUKNOLL_H
 #define YUZUKNOLL_H
@@ -33,9 +33,9 @@
 extern "C" {
 #endif
 
-#define YUZUKNOLL_VERSION "0.4.0"
+#define YUZUKNOLL_VERSION "0.5.0"
 #define YUZUKNOLL_VERSION_MAJOR 0
-#define YUZUKNOLL_VERSION_MINOR 4
+#define YUZUKNOLL_VERSION_MINOR 5
 #define YUZUKNOLL_VERSION_PATCH 0
 
 /* ---- Refusals ---- */
@@ -173,6 +173,30 @@ typedef struct {
 
 /* Initializes an entry from a string literal, as in the example above. In C++ the literal has at most 31 characters. */
 #define YUZUKNOLL_ENTRY(name) {sizeof(name) - 1, name}
+
+/* These three calls check an entry byte by byte, so that a form can tell whether a name is still possible while someone
+ * types it. They refuse nothing. The bytes are those of a yuzuknoll_entry in their order: the length, then the 32 bytes of
+ * the name. A form that does not know the length yet takes 32:
+ *
+ *     uint64_t state[3];
+ *     yuzuknoll_entry_start(state);
+ *     yuzuknoll_entry_step(state, 32);
+ *     while (yuzuknoll_entry_possible(state))
+ *         yuzuknoll_entry_step(state, next_byte_typed());
+ *
+ * The state is the number of bytes taken so far, the length, and 1 if a byte was wrong, else 0. The calls read each of the
+ * three numbers modulo 256, and accept any state. */
+
+/* Sets a state that has taken no byte: three zeros. */
+void yuzuknoll_entry_start(uint64_t state[3]);
+
+/* Takes the next byte. */
+void yuzuknoll_entry_step(uint64_t state[3], uint8_t byte);
+
+/* Returns 1 if some entry that begins with the bytes taken so far keeps the rules given with yuzuknoll_entry, and 0 if
+ * none does. For all 33 bytes of an entry it returns 0 exactly where the other calls refuse the entry with 6. After more
+ * than 33 bytes it returns 0. Does not modify the state. */
+uint64_t yuzuknoll_entry_possible(const uint64_t state[3]);
 
 /* ---- Emission ---- */
 

@@ -2,6 +2,7 @@
 
 pub mod blocks;
 pub mod emission;
+pub mod fronts;
 pub mod generate;
 pub mod list;
 pub mod names;

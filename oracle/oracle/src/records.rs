@@ -292,16 +292,25 @@ impl Entry {
         out
     }
 
+    /// Whether it is free of cause 6.
     #[must_use]
-    pub fn cause(&self) -> Option<Refusal> {
-        let good = (1..=NAME).contains(&usize::from(self.length)) && {
+    pub fn is_name(&self) -> bool {
+        (1..=NAME).contains(&usize::from(self.length)) && {
             let (name, tail) = self.bytes.split_at(usize::from(self.length));
             let letter = |b: u8| b.is_ascii_alphabetic() || b == b'_';
             letter(name[0])
                 && name.iter().all(|&b| letter(b) || b.is_ascii_digit())
                 && tail.iter().all(|&b| b == 0)
-        };
-        if good { None } else { Some(Refusal::Entry) }
+        }
+    }
+
+    #[must_use]
+    pub fn cause(&self) -> Option<Refusal> {
+        if self.is_name() {
+            None
+        } else {
+            Some(Refusal::Entry)
+        }
     }
 
     /// The name of an entry free of causes.

@@ -182,7 +182,8 @@ fn bad_specular(rng: &mut Rng) -> Key {
     key
 }
 
-fn bad_entry(rng: &mut Rng) -> Entry {
+/// An entry with cause 6.
+pub fn bad_entry(rng: &mut Rng) -> Entry {
     let mut entry = entry(rng);
     let length = usize::from(entry.length);
     match rng.below(5) {
