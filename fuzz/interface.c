@@ -111,7 +111,9 @@ static uint64_t check_read(struct lent *bytes, yuzuknoll_record *record) {
                                      YUZUKNOLL_EMIT_RECORD_LENGTH};
     struct lent *report = lend_room(REPORT, sizeof *record);
     uint64_t refusal = yuzuknoll_read(bytes->bytes, bytes->length, report->bytes);
-    must(refusal <= YUZUKNOLL_REFUSED_ENTRY_NAME, "read: no refusal of it");
+    must(refusal <= YUZUKNOLL_REFUSED_ENTRY_NAME || refusal == YUZUKNOLL_REFUSED_RESERVED_WORD, "read: no refusal of it");
+    if (refusal == YUZUKNOLL_REFUSED_ENTRY_NAME || refusal == YUZUKNOLL_REFUSED_RESERVED_WORD)
+        must(*(uint8_t *)bytes->bytes == YUZUKNOLL_KIND_ENTRY, "read: no entry, and refused as one");
     if (refusal == YUZUKNOLL_ACCEPTED) {
         memcpy(record, report->bytes, sizeof *record);
         must(record->kind >= YUZUKNOLL_KIND_KEY && record->kind <= YUZUKNOLL_KIND_EMIT, "read: no kind");

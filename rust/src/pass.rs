@@ -37,7 +37,8 @@ impl EntryPass {
         raw::entry_step(&mut self.state, byte);
     }
 
-    /// Whether some entry that begins with the bytes taken is a name. Behind all 33 bytes this is whether the entry is one; behind more it is no.
+    /// Whether some entry that begins with the bytes taken is a name. Behind all 33 bytes this is whether the entry is one; behind more it is no. That a
+    /// word is reserved does not count here.
     #[must_use]
     pub fn possible(&self) -> bool {
         raw::entry_possible(&self.state) != 0

@@ -73,9 +73,32 @@ fn bad_entries() -> Vec<(Refusal, [u8; 33])> {
     bad.extend((33..=255).map(|length| changed(&good, 0, length)));
     bad.extend(b"0123456789 .-/:@[`{\0\x80\xff".map(|first| changed(&good, 1, first)));
     bad.extend((2..33).map(|tail| changed(&good, tail, b'm')));
-    bad.into_iter()
-        .map(|entry| (Refusal::EntryName, entry))
-        .collect()
+    let words = reserved_words();
+    bad.extend(words.iter().map(|word| changed(&named(word), 32, b'm')));
+    let bad = bad.into_iter().map(|entry| (Refusal::EntryName, entry));
+    let words = words
+        .iter()
+        .map(|word| (Refusal::ReservedWord, named(word)));
+    bad.chain(words).collect()
+}
+
+fn named(name: &str) -> [u8; 33] {
+    let mut body = [0; 33];
+    body[0] = name.len() as u8;
+    body[1..=name.len()].copy_from_slice(name.as_bytes());
+    body
+}
+
+/// The words that no entry may be.
+fn reserved_words() -> Vec<String> {
+    const PLAIN: &str = "current temp oC0 in in_stage point_coord ps_c alpha_ref fog_data bump_env \
+        lod_bias fog_c fog_f fog_dz fog_range main metal Varyings FfPsOut mtld3d_linear_to_srgb \
+        fragment vertex kernel struct constant sampler static inline return if uint float float2 \
+        float3 float4";
+    let numbered = ["t", "s", "samp", "pc", "bc", "proj"].into_iter();
+    let numbered = numbered.flat_map(|word| (0..8).map(move |n| format!("{word}{n}")));
+    let plain = PLAIN.split_whitespace().map(str::to_owned);
+    plain.chain(numbered).collect()
 }
 
 /// Bytes for each refusal of the reader.
@@ -260,8 +283,8 @@ fn passes_tell_at_the_first_wrong_byte() {
         let stop = stops(&changed(entry().as_bytes(), at, b'm'));
         assert_eq!(stop, Some(at + 1));
     }
-    for (_, bad) in bad_entries() {
-        assert!(stops(&bad).is_some());
+    for (refusal, bad) in bad_entries() {
+        assert_eq!(stops(&bad).is_some(), refusal == Refusal::EntryName);
     }
 }
 
@@ -290,6 +313,20 @@ fn passes_take_any_state() {
                 }
             }
         }
+    }
+}
+
+#[test]
+fn entries_are_no_reserved_words() {
+    let words = reserved_words();
+    assert_eq!(words.len(), 83);
+    for word in &words {
+        assert_eq!(Entry::new(word), Err(Refusal::ReservedWord), "{word}");
+    }
+    for word in [
+        "T0", "t8", "t", "t00", "samp", "Main", "mai", "main_", "float5", "FLOAT",
+    ] {
+        assert!(Entry::new(word).is_ok(), "{word}");
     }
 }
 

@@ -9,6 +9,7 @@ pub mod names;
 pub mod program;
 pub mod records;
 pub mod rules;
+pub mod words;
 pub mod worked;
 
 pub use emission::{Outcome, emit};

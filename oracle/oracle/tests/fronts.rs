@@ -6,10 +6,11 @@ use oraclelib::{
     records::{ENTRY, Entry},
 };
 
-/// Bodies of all kinds: names, damaged names, any bytes.
+/// Bodies of all kinds: names, reserved words too, damaged names, any bytes.
 fn bodies(rng: &mut Rng, count: usize) -> Vec<Vec<u8>> {
     let mut body = |n: usize| match n % 4 {
-        0 | 1 => generate::entry(rng).body(),
+        0 => generate::entry(rng).body(),
+        1 => generate::reserved(rng).body(),
         2 => generate::bad_entry(rng).body(),
         _ => (0..ENTRY).map(|_| rng.byte()).collect(),
     };

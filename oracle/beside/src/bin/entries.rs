@@ -1,20 +1,28 @@
-//! `entries [SEED [COUNT]]`: yuzuknoll_entry_start, yuzuknoll_entry_step and yuzuknoll_entry_possible beside a check by completion.
+//! `entries [SEED [COUNT]]`: yuzuknoll_entry_start, yuzuknoll_entry_step and yuzuknoll_entry_possible beside a check by completion, and which entries
+//! are refused with 13.
 //!
 //! After every front of a body, the empty and the whole one too, the state must tell whether some body that begins so is free of cause 6, and behind
 //! more bytes that none is. The bodies are COUNT random ones, and those with each of the 256 bytes at each place of several entries. For a whole body
 //! the answer must be that of yuzuknoll_read too. States of any numbers are tried: each number is read modulo 256.
 //!
+//! Every reserved word must be refused with 13 by yuzuknoll_read, yuzuknoll_write, yuzuknoll_emit and yuzuknoll_apply, and none beside them: words with
+//! a byte more or less, with another last byte or another case, and every name of up to three bytes. A word with cause 6 is refused with 6.
+//!
 //! First the comparison is shown to fail: wrong functions are put in the place of the archive's, and each must be found. Prints the counts and the
 //! first differences; the exit status is 1 if there is any, or if a wrong function passes.
 
-use std::process::ExitCode;
+use std::{collections::BTreeSet, process::ExitCode};
 
 use oraclelib::{
     fronts::possible,
     generate::{self, Rng},
-    records::{ENTRY, Entry, Kind, Refusal, record},
+    records::{ENTRY, Entry, KEY, Kind, Refusal, VARIANT, record},
+    words,
 };
-use yuzuknoll::raw::{self, EntryState};
+use yuzuknoll::{
+    TEXT_LENGTH,
+    raw::{self, Applied, Emitted, EntryState, HELD_LENGTH},
+};
 
 const SEED: u64 = 1;
 const COUNT: u64 = 20_000;
@@ -51,6 +59,8 @@ fn main() -> ExitCode {
     run.every_byte();
     let every_byte = run.bodies;
     run.random(count);
+    run.words();
+    run.short_names();
     println!(
         "seed {seed}: {every_byte} bodies with each byte at each place, {} random ones; {} fronts, {} of them possible; {} states of any numbers",
         run.bodies - every_byte,
@@ -58,15 +68,26 @@ fn main() -> ExitCode {
         run.possible,
         run.states
     );
+    println!(
+        "{} names, of which {} different ones are refused with 13; {} reserved words",
+        run.names,
+        run.reserved.len(),
+        words::all().len()
+    );
+    let exactly = run.reserved == words::all().into_iter().collect();
+    run.check(exactly, || {
+        "not the reserved words are refused with 13".to_owned()
+    });
     println!("{} steps, {} differences", run.steps, run.differences);
     ExitCode::from(u8::from(run.differences != 0 || !missed.is_empty()))
 }
 
-/// The three functions, or others in their place.
+/// The three functions and yuzuknoll_read's answer for an entry, or others in their place.
 trait Functions {
     fn start(&self, state: &mut EntryState);
     fn step(&self, state: &mut EntryState, byte: u8);
     fn possible(&self, state: &EntryState) -> u64;
+    fn refusal(&self, body: &[u8]) -> u64;
 }
 
 struct Archive;
@@ -83,6 +104,53 @@ impl Functions for Archive {
     fn possible(&self, state: &EntryState) -> u64 {
         raw::entry_possible(state)
     }
+
+    fn refusal(&self, body: &[u8]) -> u64 {
+        raw::read(&record(Kind::Entry, body), &mut raw::Record::default())
+    }
+}
+
+/// What the other calls answer for an entry: writing it, emission with it and applying it.
+fn other_refusals(body: &[u8; ENTRY]) -> [u64; 4] {
+    let bytes = record(Kind::Entry, body);
+    let write = raw::write(&bytes, &mut [0; ENTRY + 1], &mut raw::Record::default());
+    let emit = |text: &mut [u8]| {
+        let (key, variant) = ([1; KEY], [0; VARIANT]);
+        raw::emit(&key, &variant, body, text, &mut Emitted::default())
+    };
+    let mut held = [0; HELD_LENGTH];
+    let apply = raw::apply(&mut held, &bytes, &mut [], &mut Applied::default());
+    // Without room for the text, an entry that is not refused is 8.
+    let cramped = match emit(&mut []) {
+        8 => 0,
+        number => number,
+    };
+    [write, emit(&mut [0; TEXT_LENGTH]), cramped, apply]
+}
+
+/// The bytes of names; the first 53 may lead.
+const NAME_BYTES: &[u8] = b"_ABCDEFGHIJKLMNOPQRSTUVWXYZabcdefghijklmnopqrstuvwxyz0123456789";
+const LEADING: &[u8] = NAME_BYTES.split_at(53).0;
+
+/// Names beside a word: a byte more or less, another last byte, another case.
+fn beside(word: &[u8]) -> Vec<Vec<u8>> {
+    let (last, front) = word.split_last().expect("a word");
+    let mut names = vec![front.to_vec(), word[1..].to_vec()];
+    for &byte in NAME_BYTES {
+        names.push([word, &[byte]].concat());
+        if byte != *last {
+            names.push([front, &[byte]].concat());
+        }
+    }
+    names.extend(LEADING.iter().map(|&byte| [&[byte], word].concat()));
+    for at in 0..word.len() {
+        let mut name = word.to_vec();
+        name[at] ^= 0x20 * u8::from(name[at].is_ascii_alphabetic());
+        names.push(name);
+    }
+    names.extend([word.to_ascii_uppercase(), word.to_ascii_lowercase()]);
+    names.retain(|name| name != word);
+    names
 }
 
 struct Run<'a> {
@@ -93,6 +161,9 @@ struct Run<'a> {
     possible: u64,
     states: u64,
     steps: u64,
+    names: u64,
+    /// The names that were refused with 13.
+    reserved: BTreeSet<String>,
     differences: u64,
     shown: u64,
 }
@@ -107,6 +178,8 @@ impl<'a> Run<'a> {
             possible: 0,
             states: 0,
             steps: 0,
+            names: 0,
+            reserved: BTreeSet::new(),
             differences: 0,
             shown: SHOWN,
         }
@@ -167,7 +240,7 @@ impl<'a> Run<'a> {
             self.front(&state, &body[..end]);
         }
         let name = self.functions.possible(&state) == 1;
-        let number = raw::read(&record(Kind::Entry, body), &mut raw::Record::default());
+        let number = self.functions.refusal(body);
         let refused = number == u64::from(Refusal::Entry.number());
         self.check(name != refused, || {
             format!("{body:02x?} is a name: {name}; read answers {number}")
@@ -244,6 +317,67 @@ impl<'a> Run<'a> {
         self.check(good, || format!("{state:x?} and {byte}: {after:x?}"));
     }
 
+    /// Every reserved word, the names beside them, and words that have cause 6 too.
+    fn words(&mut self) {
+        for word in words::all() {
+            let word = word.as_bytes();
+            for name in beside(word).iter().map(Vec::as_slice).chain([word]) {
+                let body = self.name(name);
+                let expected = Entry::from_body(&body).cause().map_or(0, Refusal::number);
+                let others = other_refusals(&body);
+                self.check(others == [expected.into(); 4], || {
+                    format!("{body:02x?}: write, emit, emit without room and apply answer {others:?}, expected {expected}")
+                });
+            }
+            let good = Entry::new(word).body();
+            for (place, byte) in [
+                (0, 0),
+                (0, 33),
+                (1, b'0'),
+                (ENTRY - 1, 1),
+                (ENTRY - 1, b'_'),
+            ] {
+                let mut body = good.clone();
+                body[place] = byte;
+                let number = self.functions.refusal(&body);
+                self.check(number == 6, || {
+                    format!("{body:02x?}: read answers {number}, expected 6")
+                });
+            }
+        }
+    }
+
+    /// Every name of up to three bytes.
+    fn short_names(&mut self) {
+        for &first in LEADING {
+            self.name(&[first]);
+            for &second in NAME_BYTES {
+                self.name(&[first, second]);
+                for &third in NAME_BYTES {
+                    self.name(&[first, second, third]);
+                }
+            }
+        }
+    }
+
+    /// What is answered for a name, or for what is none any more. Gives its body.
+    fn name(&mut self, name: &[u8]) -> [u8; ENTRY] {
+        let entry = Entry::new(name);
+        let body = entry.body();
+        let expected = entry.cause().map_or(0, Refusal::number);
+        let number = self.functions.refusal(&body);
+        self.names += 1;
+        if number == u64::from(Refusal::Word.number()) {
+            let name = String::from_utf8_lossy(name).into_owned();
+            self.reserved.insert(name);
+        }
+        self.check(number == expected.into(), || {
+            let name = String::from_utf8_lossy(name);
+            format!("the entry {name:?}: read answers {number}, expected {expected}")
+        });
+        body.try_into().expect("a body of its size")
+    }
+
     fn check(&mut self, good: bool, what: impl FnOnce() -> String) {
         if !good {
             self.differences += 1;
@@ -272,10 +406,17 @@ enum Wrong {
     StartLeavesTheMark,
     ReadsTheWholeCount,
     ReadsTheWholeMark,
+    AWordPasses,
+    AFrontOfAWordIsRefused,
+    AWordInFrontIsRefused,
+    CaseIsIgnored,
+    Number8IsRefused,
+    Answers13Before6,
+    Answers6For13,
 }
 
 impl Wrong {
-    const ALL: [Self; 15] = [
+    const ALL: [Self; 22] = [
         Self::ADigitMayLead,
         Self::ANonzeroByteBehindTheNamePasses,
         Self::Length0Passes,
@@ -291,6 +432,13 @@ impl Wrong {
         Self::StartLeavesTheMark,
         Self::ReadsTheWholeCount,
         Self::ReadsTheWholeMark,
+        Self::AWordPasses,
+        Self::AFrontOfAWordIsRefused,
+        Self::AWordInFrontIsRefused,
+        Self::CaseIsIgnored,
+        Self::Number8IsRefused,
+        Self::Answers13Before6,
+        Self::Answers6For13,
     ];
 }
 
@@ -299,6 +447,7 @@ fn found(wrong: Wrong) -> bool {
     let mut run = Run::new(&wrong, SEED);
     run.shown = 0;
     run.random(SELF_TEST);
+    run.words();
     run.differences != 0
 }
 
@@ -345,6 +494,26 @@ impl Functions for Wrong {
             Self::AnswersTwo => 2 * Archive.possible(state),
             Self::ReadsTheWholeMark => u64::from(state[2] == 0),
             _ => Archive.possible(state),
+        }
+    }
+
+    fn refusal(&self, body: &[u8]) -> u64 {
+        let number = Archive.refusal(body);
+        let length = usize::from(body[0]).min(ENTRY - 1);
+        let name = String::from_utf8_lossy(&body[1..=length]).into_owned();
+        let wrong = match (self, number) {
+            (Self::AFrontOfAWordIsRefused, 0) => words::is_reserved(&format!("{name}0")),
+            (Self::AWordInFrontIsRefused, 0) => words::is_reserved(&name[..length - 1]),
+            (Self::CaseIsIgnored, 0) => words::is_reserved(&name.to_ascii_lowercase()),
+            (Self::Number8IsRefused, 0) => words::is_reserved(&name.replace('8', "7")),
+            (Self::Answers13Before6, 6) => words::is_reserved(&name),
+            _ => false,
+        };
+        match self {
+            Self::AWordPasses if name == "float2" => 0,
+            Self::Answers6For13 if number == 13 => 6,
+            _ if wrong => 13,
+            _ => number,
         }
     }
 }
