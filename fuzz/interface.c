@@ -5,7 +5,8 @@
  * ways. After each call every byte of these pages is compared with what must stand there, the structs for reports among them.
  *
  * An input: the length of the text's buffer (two bytes, low byte first), of the written record's, what is held (113 bytes), and records. The key, the
- * variant and the entry for yuzuknoll_emit are the bytes of what is held behind the kinds.
+ * variant and the entry for yuzuknoll_emit are the bytes of what is held behind the kinds. The calls on an entry's bytes are given those of this entry,
+ * and the first bytes of what is held as a state that no pass makes.
  */
 #define _GNU_SOURCE
 #include <stdio.h>
@@ -21,7 +22,7 @@
 #define HEAD 3
 #define FRONT (HEAD + YUZUKNOLL_HELD_LENGTH)
 
-enum { KEY, VARIANT, ENTRY, BYTES, HELD, TEXT, REPORT, BUFFERS };
+enum { KEY, VARIANT, ENTRY, BYTES, HELD, TEXT, REPORT, STATE, BUFFERS };
 
 /* What libFuzzer is told of the answers, since it sees no branch of the archive. */
 __attribute__((section("__libfuzzer_extra_counters"), used)) static uint8_t seen[1 << 12];
@@ -110,7 +111,9 @@ static uint64_t check_read(struct lent *bytes, yuzuknoll_record *record) {
                                      YUZUKNOLL_EMIT_RECORD_LENGTH};
     struct lent *report = lend_room(REPORT, sizeof *record);
     uint64_t refusal = yuzuknoll_read(bytes->bytes, bytes->length, report->bytes);
-    must(refusal <= YUZUKNOLL_REFUSED_ENTRY_NAME, "read: no refusal of it");
+    must(refusal <= YUZUKNOLL_REFUSED_ENTRY_NAME || refusal == YUZUKNOLL_REFUSED_RESERVED_WORD, "read: no refusal of it");
+    if (refusal == YUZUKNOLL_REFUSED_ENTRY_NAME || refusal == YUZUKNOLL_REFUSED_RESERVED_WORD)
+        must(*(uint8_t *)bytes->bytes == YUZUKNOLL_KIND_ENTRY, "read: no entry, and refused as one");
     if (refusal == YUZUKNOLL_ACCEPTED) {
         memcpy(record, report->bytes, sizeof *record);
         must(record->kind >= YUZUKNOLL_KIND_KEY && record->kind <= YUZUKNOLL_KIND_EMIT, "read: no kind");
@@ -196,6 +199,53 @@ static void check_emits(const uint8_t *held, size_t room) {
     must(check_emit(key, variant, entry, first.length - 1, &again) == YUZUKNOLL_REFUSED_NO_ROOM, "emit: room one byte short");
 }
 
+/* The state of a pass over an entry's bytes: three numbers, of which the calls read the lowest byte. */
+typedef struct {
+    uint64_t taken, length, wrong;
+} pass;
+
+static void check_possible(struct lent *state) {
+    pass before;
+    memcpy(&before, state->bytes, sizeof before);
+    must(yuzuknoll_entry_possible(state->bytes) == (before.wrong % 256 == 0), "entry_possible: another answer");
+    as_expected(state, "entry_possible: the state was written");
+}
+
+/* One step. What it makes of the mark is left to it, but for its two values. */
+static void check_step(struct lent *state, uint8_t byte) {
+    pass before, after;
+    memcpy(&before, state->bytes, sizeof before);
+    yuzuknoll_entry_step(state->bytes, byte);
+    memcpy(&after, state->bytes, sizeof after);
+    must(after.taken == (before.taken + 1) % 256, "entry_step: another count of bytes");
+    must(after.length == (before.taken % 256 == 0 ? byte : before.length % 256), "entry_step: another length");
+    must(after.wrong == before.wrong % 256 || after.wrong == 1, "entry_step: another mark");
+    expect(state, 0, &after, sizeof after);
+    as_expected(state, "entry_step: bytes beside the state");
+    check_possible(state);
+}
+
+/* The calls on an entry's bytes: a state of any numbers, then an entry, and a byte more. */
+static void check_pass(const uint8_t *held) {
+    const uint8_t *entry = held + YUZUKNOLL_KEY_RECORD_LENGTH + YUZUKNOLL_VARIANT_RECORD_LENGTH + 1;
+    struct lent *state = lend(STATE, held, sizeof(pass), sizeof(pass));
+    static const pass started;
+    check_possible(state);
+    for (size_t i = 0; i <= sizeof(yuzuknoll_entry); i++)
+        check_step(state, held[sizeof(pass) + i]);
+    yuzuknoll_entry_start(state->bytes);
+    expect(state, 0, &started, sizeof started);
+    as_expected(state, "entry_start: another state, or bytes beside it");
+    for (size_t i = 0; i < sizeof(yuzuknoll_entry); i++)
+        check_step(state, entry[i]);
+    struct lent *body = lend(ENTRY, entry, sizeof(yuzuknoll_entry), sizeof(yuzuknoll_entry));
+    int refused = refusal_of(YUZUKNOLL_KIND_ENTRY, body) == YUZUKNOLL_REFUSED_ENTRY_NAME;
+    must(yuzuknoll_entry_possible(state->bytes) == !refused, "entry_possible: another answer than the entry's record has");
+    note(10, ((pass *)state->bytes)->wrong);
+    check_step(state, held[0]);
+    must(yuzuknoll_entry_possible(state->bytes) == 0, "entry_possible: a byte behind the entry");
+}
+
 /* Whether a part of what is held is a good record of its kind. */
 static int holds(const uint8_t *part, size_t length, unsigned kind) {
     yuzuknoll_record record;
@@ -260,6 +310,7 @@ static void go_through(const uint8_t *data, size_t size) {
     size_t room = (data[0] | (size_t)data[1] << 8) % (YUZUKNOLL_TEXT_LENGTH + 2), written = data[2] % 80;
     const uint8_t *records = data + FRONT;
     size_t left = size - FRONT;
+    check_pass(data + HEAD);
     check_emits(data + HEAD, room);
     struct lent *held = lend(HELD, data + HEAD, sizeof(yuzuknoll_held), sizeof(yuzuknoll_held));
     for (;;) {

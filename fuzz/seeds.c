@@ -1,4 +1,4 @@
-/* seeds FOLDER COUNT: inputs of good records for interface.c, one to a file. */
+/* seeds FOLDER COUNT: inputs of good records for interface.c, one to a file; an entry is seldom a reserved word. */
 #include <stdint.h>
 #include <stdio.h>
 #include <stdlib.h>
@@ -42,15 +42,24 @@ static uint8_t *put_variant(uint8_t *at) {
     return put(put(at, below(256)), below(64));
 }
 
-static uint8_t *put_entry(uint8_t *at) {
-    static const char letters[] = "_ABCDEFGHIJKLMNOPQRSTUVWXYZabcdefghijklmnopqrstuvwxyz0123456789";
-    unsigned length = 1 + below(32);
+static uint8_t *put_name(uint8_t *at, const char *name) {
     memset(at, 0, YUZUKNOLL_ENTRY_RECORD_LENGTH);
     at[0] = YUZUKNOLL_KIND_ENTRY;
-    at[1] = (uint8_t)length;
-    for (unsigned i = 0; i < length; i++)
-        at[2 + i] = (uint8_t)letters[below(i == 0 ? 53 : 63)];
+    at[1] = (uint8_t)strlen(name);
+    memcpy(at + 2, name, strlen(name));
     return at + YUZUKNOLL_ENTRY_RECORD_LENGTH;
+}
+
+static uint8_t *put_entry(uint8_t *at) {
+    static const char *const words[] = {"t0", "s7", "in", "if", "oC0", "pc3", "temp", "samp5", "proj1", "float4", "current",
+                                        "Varyings", "fog_range", "point_coord", "mtld3d_linear_to_srgb"};
+    static const char letters[] = "_ABCDEFGHIJKLMNOPQRSTUVWXYZabcdefghijklmnopqrstuvwxyz0123456789";
+    if (below(12) == 0)
+        return put_name(at, words[below(sizeof words / sizeof *words)]);
+    char name[33] = {0};
+    for (unsigned i = 0, length = 1 + below(32); i < length; i++)
+        name[i] = letters[below(i == 0 ? 53 : 63)];
+    return put_name(at, name);
 }
 
 /* Buffers that are large enough, or of any length. */

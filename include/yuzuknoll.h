@@ -19,9 +19,9 @@
  * The library needs no set-up, keeps nothing between calls and allocates no memory. Threads may call it at the same
  * time, as long as no call writes to memory that another one uses.
  *
- * Every call returns YUZUKNOLL_ACCEPTED (0) or the number of a refusal. On refusal nothing is modified: no buffer and
- * no struct. No pointer may be null, not even one to a buffer of length 0. What a call writes must not overlap anything
- * else that is passed to the same call.
+ * Every call but those that check an entry byte by byte returns YUZUKNOLL_ACCEPTED (0) or the number of a refusal. On
+ * refusal nothing is modified: no buffer and no struct. No pointer may be null, not even one to a buffer of length 0. What
+ * a call writes must not overlap anything else that is passed to the same call.
  */
 #ifndef YUZUKNOLL_H
 #define YUZUKNOLL_H
@@ -33,9 +33,9 @@
 extern "C" {
 #endif
 
-#define YUZUKNOLL_VERSION "0.4.0"
+#define YUZUKNOLL_VERSION "0.6.0"
 #define YUZUKNOLL_VERSION_MAJOR 0
-#define YUZUKNOLL_VERSION_MINOR 4
+#define YUZUKNOLL_VERSION_MINOR 6
 #define YUZUKNOLL_VERSION_PATCH 0
 
 /* ---- Refusals ---- */
@@ -47,10 +47,11 @@ extern "C" {
 #define YUZUKNOLL_REFUSED_STAGE_FLAGS 3    /* The flags of a stage have a bit that is not one of YUZUKNOLL_STAGE_... */
 #define YUZUKNOLL_REFUSED_SPECULAR_ADD 4   /* The specular byte of the key is neither 0 nor 1. */
 #define YUZUKNOLL_REFUSED_VARIANT_FLAGS 5  /* The variant's flags have a bit that is not one of YUZUKNOLL_VARIANT_... */
-#define YUZUKNOLL_REFUSED_ENTRY_NAME 6     /* The entry breaks a rule that is given with yuzuknoll_entry. */
+#define YUZUKNOLL_REFUSED_ENTRY_NAME 6     /* The entry is no name, by the rules given with yuzuknoll_entry. */
 #define YUZUKNOLL_REFUSED_EMIT_TOO_EARLY 7 /* An emit record came before a key, a variant and an entry were held. */
 #define YUZUKNOLL_REFUSED_NO_ROOM 8        /* The text, or the record to write, is longer than the buffer. */
 #define YUZUKNOLL_REFUSED_INPUT_TOO_LONG 9 /* No call returns this. The program ffps takes no more than 32,768 bytes. */
+#define YUZUKNOLL_REFUSED_RESERVED_WORD 13 /* The entry is a reserved word. They are given with yuzuknoll_entry. */
 
 /* ---- Keys ---- */
 
@@ -165,7 +166,14 @@ typedef struct {
 /* ---- Entries ---- */
 
 /* The name of the function: 1 to 32 ASCII letters, digits and underscores, of which the first is no digit. The bytes
- * behind the name must be 0. */
+ * behind the name must be 0.
+ *
+ * These words are reserved, because the texts or Metal use them. No name may be one of them; case counts.
+ *   t0 to t7, s0 to s7, samp0 to samp7, pc0 to pc7, bc0 to bc7, proj0 to proj7
+ *   current temp oC0 in in_stage point_coord ps_c alpha_ref fog_data bump_env lod_bias fog_c fog_f fog_dz fog_range
+ *   main metal Varyings FfPsOut mtld3d_linear_to_srgb fragment vertex kernel struct constant sampler static inline return
+ *   if uint float float2 float3 float4
+ * Metal refuses more words than these. A prefix of one's own, as in mtld3d_ps, is safe. */
 typedef struct {
     uint8_t length;
     char name[32];
@@ -173,6 +181,30 @@ typedef struct {
 
 /* Initializes an entry from a string literal, as in the example above. In C++ the literal has at most 31 characters. */
 #define YUZUKNOLL_ENTRY(name) {sizeof(name) - 1, name}
+
+/* These three calls check an entry byte by byte, so that a form can tell whether a name is still possible while someone
+ * types it. They refuse nothing. The bytes are those of a yuzuknoll_entry in their order: the length, then the 32 bytes of
+ * the name. A form that does not know the length yet takes 32:
+ *
+ *     uint64_t state[3];
+ *     yuzuknoll_entry_start(state);
+ *     yuzuknoll_entry_step(state, 32);
+ *     while (yuzuknoll_entry_possible(state))
+ *         yuzuknoll_entry_step(state, next_byte_typed());
+ *
+ * The state is the number of bytes taken so far, the length, and 1 if a byte was wrong, else 0. The calls read each of the
+ * three numbers modulo 256, and accept any state. */
+
+/* Sets a state that has taken no byte: three zeros. */
+void yuzuknoll_entry_start(uint64_t state[3]);
+
+/* Takes the next byte. */
+void yuzuknoll_entry_step(uint64_t state[3], uint8_t byte);
+
+/* Returns 1 if some entry that begins with the bytes taken so far keeps the rules given with yuzuknoll_entry, and 0 if
+ * none does; that a word is reserved does not count here. For all 33 bytes of an entry it returns 0 exactly where the
+ * other calls refuse the entry with 6. After more than 33 bytes it returns 0. Does not modify the state. */
+uint64_t yuzuknoll_entry_possible(const uint64_t state[3]);
 
 /* ---- Emission ---- */
 
@@ -203,7 +235,7 @@ typedef struct {
  *   12 bump_env   row 2 * i is the matrix of stage i (m00, m01, m10, m11); row 2 * i + 1 has luminance scale and offset
  *   11 lod_bias   row i holds the bias of stage i in x, and in w the level for a lookup of depth
  *
- * Refuses with 3, 4, 5, 6 or 8, in this order. Does not modify the bytes after the text. On refusal nothing is
+ * Refuses with 3, 4, 5, 6, 13 or 8, in this order. Does not modify the bytes after the text. On refusal nothing is
  * modified. */
 uint64_t yuzuknoll_emit(const yuzuknoll_key *key, const yuzuknoll_variant *variant, const yuzuknoll_entry *entry,
                         uint8_t *text, size_t text_length, yuzuknoll_result *result);
@@ -231,8 +263,8 @@ typedef struct {
 
 /* Checks the record at the front of bytes. The bytes after it do not matter.
  *
- * Refuses with 1 if there is no byte, with 2, with 1 if the record is cut short, or with 3, 4, 5 or 6, in this order. On
- * refusal nothing is modified. */
+ * Refuses with 1 if there is no byte, with 2, with 1 if the record is cut short, or with 3, 4, 5, 6 or 13, in this order.
+ * On refusal nothing is modified. */
 uint64_t yuzuknoll_read(const uint8_t *bytes, size_t length, yuzuknoll_record *record);
 
 /* Checks the record at the front of bytes and copies it to the front of out. The bytes after it do not matter.

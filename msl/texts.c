@@ -6,6 +6,7 @@
  *   texts word WORD N     the shortest text (0), the rich one (1) or a small one (2 to 49) under the entry WORD, as it is
  *   texts word-records WORD N    the records of that text
  *   texts words N         a file with the text N for each word on standard input, under its name in this folder
+ *   texts reserved        the words on standard input that are refused as entries with 13
  *   texts smalls WORD     a file for each of the small texts, under its number in this folder
  *   texts attributes      looks at the attributes of one text on standard input
  *
@@ -634,7 +635,7 @@ static void put_word(const char *word, const char *number, bool records) {
 
 /* The stand-in's vector constructors are macros, and Metal's are not. */
 static bool is_constructor(const char *word) {
-    static const char *const constructors[] = {"float2", "float3", "float4", "int2", "int3", "int4", "uint2", "uint3", "uint4"};
+    static const char *const constructors[] = {"int2", "int3", "int4", "uint2", "uint3", "uint4"};
     for (size_t i = 0; i < COUNT(constructors); i++)
         if (strcmp(word, constructors[i]) == 0) return true;
     return false;
@@ -656,6 +657,16 @@ static void write_file(const char *path, const char *word, int number) {
 static void write_word_files(int number) {
     char word[64];
     while (scanf("%63s", word) == 1) write_file(word, word, number);
+}
+
+static void put_reserved(void) {
+    char word[64];
+    while (scanf("%63s", word) == 1) {
+        struct input in = word_input(word, 0);
+        yuzuknoll_result result;
+        uint64_t refusal = yuzuknoll_emit(&in.key, &in.variant, &in.entry, text, YUZUKNOLL_TEXT_LENGTH, &result);
+        if (refusal == YUZUKNOLL_REFUSED_RESERVED_WORD) puts(word);
+    }
 }
 
 static void write_small_files(const char *word) {
@@ -698,6 +709,8 @@ int main(int count, char **words) {
         write_word_files(number_of(words[2]));
     } else if (count == 3 && strcmp(words[1], "smalls") == 0) {
         write_small_files(words[2]);
+    } else if (count == 2 && strcmp(words[1], "reserved") == 0) {
+        put_reserved();
     } else if (count == 2 && strcmp(words[1], "attributes") == 0) {
         check_attributes(fread(text, 1, YUZUKNOLL_TEXT_LENGTH, stdin), "standard input");
     } else {

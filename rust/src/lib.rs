@@ -32,6 +32,7 @@
 
 mod codes;
 mod emission;
+mod pass;
 #[allow(unsafe_code)]
 pub mod raw;
 mod records;
@@ -41,6 +42,7 @@ mod values;
 
 pub use codes::{Argument, Comparison, FogMode, Mask, Op, StageFlags, VariantFlags, warning};
 pub use emission::{Emission, emit};
+pub use pass::EntryPass;
 pub use records::{Kind, Record};
 pub use refusal::Refusal;
 pub use session::{Applied, Session};

@@ -1,5 +1,5 @@
-//! The four functions as include/yuzuknoll.h has them, on any bytes. Each returns 0 or the number of a refusal, and reports into a struct, which it
-//! modifies only if it returns 0.
+//! The functions as include/yuzuknoll.h has them, on any bytes. All but those on an entry's bytes return 0 or the number of a refusal, and report into a
+//! struct, which they modify only if they return 0.
 
 /// The bytes of a key, a variant and an entry, and of what a session holds.
 pub const KEY_LENGTH: usize = 58;
@@ -35,6 +35,9 @@ pub struct Applied {
     pub result: Emitted,
 }
 
+/// How many of an entry's bytes were taken, the length, and 1 if one was wrong.
+pub type EntryState = [u64; 3];
+
 // What the header has as pointers to structs of bytes are pointers to bytes here.
 mod archive {
     use super::{Applied, Emitted, Record};
@@ -48,6 +51,12 @@ mod archive {
             text_length: usize,
             result: *mut Emitted,
         ) -> u64;
+
+        pub fn yuzuknoll_entry_start(state: *mut u64);
+
+        pub fn yuzuknoll_entry_step(state: *mut u64, byte: u8);
+
+        pub fn yuzuknoll_entry_possible(state: *const u64) -> u64;
 
         pub fn yuzuknoll_read(bytes: *const u8, length: usize, record: *mut Record) -> u64;
 
@@ -70,7 +79,7 @@ mod archive {
     }
 }
 
-// Safety of the four calls: the pointer of a reference is not null and good for its length, and what is borrowed to be written overlaps nothing else.
+// Safety of the calls: the pointer of a reference is not null and good for its length, and what is borrowed to be written overlaps nothing else.
 // The functions ask for nothing more: they are proved to stay inside what they are lent.
 
 #[must_use]
@@ -91,6 +100,22 @@ pub fn emit(
             result,
         )
     }
+}
+
+/// Sets the state of a pass over an entry's bytes that has taken none.
+pub fn entry_start(state: &mut EntryState) {
+    unsafe { archive::yuzuknoll_entry_start(state.as_mut_ptr()) }
+}
+
+/// Takes the next of an entry's bytes: the length, then those of the name.
+pub fn entry_step(state: &mut EntryState, byte: u8) {
+    unsafe { archive::yuzuknoll_entry_step(state.as_mut_ptr(), byte) }
+}
+
+/// 1 if some entry that begins with the bytes taken is a name, 0 if none is.
+#[must_use]
+pub fn entry_possible(state: &EntryState) -> u64 {
+    unsafe { archive::yuzuknoll_entry_possible(state.as_ptr()) }
 }
 
 #[must_use]

@@ -70,7 +70,7 @@ impl Record {
     /// Reads the record at the front of `bytes`, and moves `bytes` on to what follows it.
     ///
     /// # Errors
-    /// [`Refusal::CutShort`] to [`Refusal::EntryName`]; `bytes` then still begins with the refused record.
+    /// [`Refusal::CutShort`] to [`Refusal::EntryName`], or [`Refusal::ReservedWord`]; `bytes` then still begins with the refused record.
     pub fn read(bytes: &mut &[u8]) -> Result<Self, Refusal> {
         Refusal::check(raw::read(bytes, &mut raw::Record::default()))?;
         let (record, rest) = Self::of_accepted(bytes)?;

@@ -24,6 +24,8 @@ pub enum Refusal {
     NoRoom,
     /// The input of the program `ffps` has more than 32,768 bytes. No call of this crate is refused for it.
     InputTooLong,
+    /// The entry is a reserved word, one that the texts or Metal use.
+    ReservedWord,
     /// A number that this version of the crate has no name for. The archive of the same version returns none.
     Other(u64),
 }
@@ -43,6 +45,7 @@ impl Refusal {
             7 => Self::EmitTooEarly,
             8 => Self::NoRoom,
             9 => Self::InputTooLong,
+            13 => Self::ReservedWord,
             _ => Self::Other(number),
         })
     }
@@ -59,6 +62,7 @@ impl Refusal {
             Self::EmitTooEarly => 7,
             Self::NoRoom => 8,
             Self::InputTooLong => 9,
+            Self::ReservedWord => 13,
             Self::Other(number) => number,
         }
     }
@@ -81,6 +85,7 @@ impl fmt::Display for Refusal {
             Self::EmitTooEarly => "emit came before a key, a variant and an entry",
             Self::NoRoom => "the buffer is too short",
             Self::InputTooLong => "the input is too long",
+            Self::ReservedWord => "the entry is a reserved word",
             Self::Other(_) => "the cause has no name here",
         };
         write!(f, "refused with {}: {cause}", self.number())

@@ -178,6 +178,8 @@ impl Variant {
 }
 
 /// The name of the function: 1 to 32 ASCII letters, digits and underscores, of which the first is no digit.
+///
+/// 83 words that the texts or Metal use are reserved, `t0`, `main` and `float4` among them; include/yuzuknoll.h lists them. No name may be one of them.
 #[derive(Clone, Copy, Debug, PartialEq, Eq, Hash)]
 #[repr(C)]
 pub struct Entry {
@@ -187,7 +189,7 @@ pub struct Entry {
 
 impl Entry {
     /// # Errors
-    /// [`Refusal::EntryName`] if it is no such name.
+    /// [`Refusal::EntryName`] if it is no such name, [`Refusal::ReservedWord`] if it is a reserved word.
     pub fn new(name: &str) -> Result<Self, Refusal> {
         let mut entry = Self {
             length: u8::try_from(name.len()).map_err(|_| Refusal::EntryName)?,
@@ -196,7 +198,7 @@ impl Entry {
         for (place, byte) in entry.name.iter_mut().zip(name.bytes()) {
             *place = byte;
         }
-        // The archive decides what a name is, its length included.
+        // The archive decides what a name is, its length included, and which words are reserved.
         let mut record = [0; Kind::Entry.record_length()];
         let [kind, body @ ..] = &mut record;
         *kind = Kind::Entry.number();

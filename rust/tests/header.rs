@@ -115,6 +115,7 @@ fn named() -> BTreeMap<&'static str, u64> {
         ("REFUSED_EMIT_TOO_EARLY", Refusal::EmitTooEarly),
         ("REFUSED_NO_ROOM", Refusal::NoRoom),
         ("REFUSED_INPUT_TOO_LONG", Refusal::InputTooLong),
+        ("REFUSED_RESERVED_WORD", Refusal::ReservedWord),
     ];
     let kinds = [
         ("KIND_KEY", "KEY_RECORD_LENGTH", Kind::Key),
@@ -163,8 +164,8 @@ fn named() -> BTreeMap<&'static str, u64> {
 #[test]
 fn every_number_is_named_here_and_there() {
     let mut defined = defined();
-    assert_eq!(defined.remove("VERSION"), Some("\"0.4.0\""));
-    assert_eq!(VERSION, "0.4.0");
+    assert_eq!(defined.remove("VERSION"), Some("\"0.6.0\""));
+    assert_eq!(VERSION, "0.6.0");
     // the guard of the header
     assert_eq!(defined.remove("H"), None);
     let numbers: BTreeMap<&str, u64> = defined
@@ -177,10 +178,11 @@ fn every_number_is_named_here_and_there() {
 #[test]
 fn numbers_lead_back_to_their_names() {
     assert_eq!(Refusal::from_number(0), None);
-    for number in 1..=10 {
+    for number in 1..=14 {
         let refusal = Refusal::from_number(number).unwrap();
         assert_eq!(refusal.number(), number);
-        assert_eq!(refusal == Refusal::Other(number), number == 10);
+        let unnamed = matches!(number, 10..=12 | 14);
+        assert_eq!(refusal == Refusal::Other(number), unnamed);
         let said = refusal.to_string();
         assert!(said.starts_with(&format!("refused with {number}: ")));
     }

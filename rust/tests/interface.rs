@@ -1,8 +1,8 @@
 //! Each call at its edges: what it answers, which refusals it meets, and that a refusal leaves every lent byte and number as it was.
 
 use yuzuknoll::{
-    Applied, Argument, Combiner, Comparison, Entry, FogMode, Key, Kind, Mask, Op, Record, Refusal,
-    Session, Stage, StageFlags, TEXT_LENGTH, Variant, VariantFlags, emit, raw,
+    Applied, Argument, Combiner, Comparison, Entry, EntryPass, FogMode, Key, Kind, Mask, Op,
+    Record, Refusal, Session, Stage, StageFlags, TEXT_LENGTH, Variant, VariantFlags, emit, raw,
 };
 
 /// MODULATE of texture and diffuse.
@@ -73,9 +73,32 @@ fn bad_entries() -> Vec<(Refusal, [u8; 33])> {
     bad.extend((33..=255).map(|length| changed(&good, 0, length)));
     bad.extend(b"0123456789 .-/:@[`{\0\x80\xff".map(|first| changed(&good, 1, first)));
     bad.extend((2..33).map(|tail| changed(&good, tail, b'm')));
-    bad.into_iter()
-        .map(|entry| (Refusal::EntryName, entry))
-        .collect()
+    let words = reserved_words();
+    bad.extend(words.iter().map(|word| changed(&named(word), 32, b'm')));
+    let bad = bad.into_iter().map(|entry| (Refusal::EntryName, entry));
+    let words = words
+        .iter()
+        .map(|word| (Refusal::ReservedWord, named(word)));
+    bad.chain(words).collect()
+}
+
+fn named(name: &str) -> [u8; 33] {
+    let mut body = [0; 33];
+    body[0] = name.len() as u8;
+    body[1..=name.len()].copy_from_slice(name.as_bytes());
+    body
+}
+
+/// The words that no entry may be.
+fn reserved_words() -> Vec<String> {
+    const PLAIN: &str = "current temp oC0 in in_stage point_coord ps_c alpha_ref fog_data bump_env \
+        lod_bias fog_c fog_f fog_dz fog_range main metal Varyings FfPsOut mtld3d_linear_to_srgb \
+        fragment vertex kernel struct constant sampler static inline return if uint float float2 \
+        float3 float4";
+    let numbered = ["t", "s", "samp", "pc", "bc", "proj"].into_iter();
+    let numbered = numbered.flat_map(|word| (0..8).map(move |n| format!("{word}{n}")));
+    let plain = PLAIN.split_whitespace().map(str::to_owned);
+    plain.chain(numbered).collect()
 }
 
 /// Bytes for each refusal of the reader.
@@ -210,6 +233,100 @@ fn entries_are_names() {
     let bad = ["", "9", "a b", "a.b", "a\0", "é", "ä"].into_iter();
     for name in bad.chain(long.iter().map(String::as_str)) {
         assert_eq!(Entry::new(name), Err(Refusal::EntryName), "{name:?}");
+    }
+}
+
+/// After how many bytes no name is possible any more; none if it is to the end.
+fn stops(bytes: &[u8]) -> Option<usize> {
+    let mut pass = EntryPass::new();
+    assert!(pass.possible());
+    let possible: Vec<bool> = bytes
+        .iter()
+        .map(|&byte| {
+            pass.step(byte);
+            pass.possible()
+        })
+        .collect();
+    assert!(possible.is_sorted_by(|earlier, later| earlier >= later));
+    possible
+        .iter()
+        .position(|possible| !possible)
+        .map(|at| at + 1)
+}
+
+#[test]
+fn passes_tell_at_the_first_wrong_byte() {
+    let long = *Entry::new(&"x".repeat(32)).unwrap().as_bytes();
+    for good in [entry().as_bytes(), &long] {
+        assert_eq!(stops(good), None);
+        for behind in [&[0][..], b"x", &[0; 300]] {
+            assert_eq!(stops(&[good, behind].concat()), Some(34));
+        }
+    }
+    for length in 0..=255 {
+        let stop = stops(&changed(&long, 0, length));
+        let expected = match length {
+            0 | 33.. => Some(1),
+            32 => None,
+            _ => Some(usize::from(length) + 2),
+        };
+        assert_eq!(stop, expected, "length {length}");
+    }
+    for at in 1..33 {
+        for byte in b"09 .-/:@[`{\0\x80\xff" {
+            let stop = stops(&changed(&long, at, *byte));
+            let good = byte.is_ascii_digit() && at != 1;
+            assert_eq!(stop, (!good).then_some(at + 1), "{byte} at {at}");
+        }
+    }
+    for at in 2..33 {
+        let stop = stops(&changed(entry().as_bytes(), at, b'm'));
+        assert_eq!(stop, Some(at + 1));
+    }
+    for (refusal, bad) in bad_entries() {
+        assert_eq!(stops(&bad).is_some(), refusal == Refusal::EntryName);
+    }
+}
+
+/// A state that no pass makes is read modulo 256.
+#[test]
+fn passes_take_any_state() {
+    let numbers = [0, 1, 2, 32, 33, 34, 255].into_iter();
+    let numbers: Vec<u64> = numbers
+        .flat_map(|n: u64| [n, n + 256, n | 1 << 63, n | u64::MAX << 8])
+        .collect();
+    for &taken in &numbers {
+        for &length in &numbers {
+            for &wrong in &numbers {
+                for byte in [0, 1, 32, 33, b'0', b'm', 255] {
+                    let before = [taken, length, wrong];
+                    let mut state = before;
+                    assert_eq!(raw::entry_possible(&state), u64::from(wrong % 256 == 0));
+                    assert_eq!(state, before);
+                    raw::entry_step(&mut state, byte);
+                    let mut reduced = before.map(|number| number % 256);
+                    raw::entry_step(&mut reduced, byte);
+                    assert_eq!(state, reduced);
+                    assert_eq!(state[0], (taken % 256 + 1) % 256);
+                    raw::entry_start(&mut state);
+                    assert_eq!(state, [0; 3]);
+                }
+            }
+        }
+    }
+}
+
+#[test]
+fn entries_are_no_reserved_words() {
+    let words = reserved_words();
+    assert_eq!(words.len(), 83);
+    for word in &words {
+        assert_eq!(Entry::new(word), Err(Refusal::ReservedWord), "{word}");
+    }
+    for word in [
+        "T0", "t8", "t", "t00", "samp", "Main", "mai", "main_", "float5", "FLOAT",
+    ] {
+        assert!(Entry::new(word).is_ok(), "{word}");
     }
 }
 

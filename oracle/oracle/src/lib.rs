@@ -2,12 +2,14 @@
 
 pub mod blocks;
 pub mod emission;
+pub mod fronts;
 pub mod generate;
 pub mod list;
 pub mod names;
 pub mod program;
 pub mod records;
 pub mod rules;
+pub mod words;
 pub mod worked;
 
 pub use emission::{Outcome, emit};

@@ -51,7 +51,7 @@ impl Record {
     }
 
     /// # Errors
-    /// The first of the causes 1 to 6.
+    /// The first of the causes 1 to 6 and 13.
     pub fn read(bytes: &[u8]) -> Result<Self, Refusal> {
         let (&kind, rest) = bytes.split_first().ok_or(Refusal::Cut)?;
         let kind = Kind::of(kind).ok_or(Refusal::Kind)?;

@@ -1,5 +1,7 @@
 //! 01's records: kinds, bodies as plain values, and the causes that refuse them.
 
+use crate::words;
+
 pub const STAGES: usize = 8;
 pub const KEY: usize = STAGES * STAGE + 2;
 pub const VARIANT: usize = 19;
@@ -32,7 +34,7 @@ pub const POINT_SPRITE: u8 = 8;
 pub const LOD_BIAS: u8 = 16;
 pub const FOG_SOURCE_W: u8 = 32;
 
-/// A line of 01's table of refusals, by its number.
+/// A line of 01's table of refusals, or one that 02 adds, by its number.
 #[derive(Clone, Copy, Debug, PartialEq, Eq)]
 #[repr(u8)]
 pub enum Refusal {
@@ -45,16 +47,19 @@ pub enum Refusal {
     NothingHeld,
     LongText,
     LongInput,
+    Word = 13,
 }
 
 impl Refusal {
-    pub const ALL: [Self; 9] = [
+    /// In the order in which they are looked for, but for 9; the last two, 8 and 9, are about lengths.
+    pub const ALL: [Self; 10] = [
         Self::Cut,
         Self::Kind,
         Self::StageFlag,
         Self::Specular,
         Self::VariantFlag,
         Self::Entry,
+        Self::Word,
         Self::NothingHeld,
         Self::LongText,
         Self::LongInput,
@@ -292,22 +297,33 @@ impl Entry {
         out
     }
 
+    /// Whether it is free of cause 6.
     #[must_use]
-    pub fn cause(&self) -> Option<Refusal> {
-        let good = (1..=NAME).contains(&usize::from(self.length)) && {
+    pub fn is_name(&self) -> bool {
+        (1..=NAME).contains(&usize::from(self.length)) && {
             let (name, tail) = self.bytes.split_at(usize::from(self.length));
             let letter = |b: u8| b.is_ascii_alphabetic() || b == b'_';
             letter(name[0])
                 && name.iter().all(|&b| letter(b) || b.is_ascii_digit())
                 && tail.iter().all(|&b| b == 0)
-        };
-        if good { None } else { Some(Refusal::Entry) }
+        }
     }
 
-    /// The name of an entry free of causes.
+    #[must_use]
+    pub fn cause(&self) -> Option<Refusal> {
+        if !self.is_name() {
+            Some(Refusal::Entry)
+        } else if words::is_reserved(self.name()) {
+            Some(Refusal::Word)
+        } else {
+            None
+        }
+    }
+
+    /// The name of an entry free of cause 6.
     ///
     /// # Panics
-    /// If the entry is refused.
+    /// If the entry has cause 6.
     #[must_use]
     pub fn name(&self) -> &str {
         std::str::from_utf8(&self.bytes[..usize::from(self.length)]).expect("ASCII")
@@ -360,7 +376,7 @@ impl Triple {
         [key, variant, entry].concat()
     }
 
-    /// The first cause in the order of the numbers.
+    /// The first cause of 3, 4, 5, 6 and 13.
     #[must_use]
     pub fn cause(&self) -> Option<Refusal> {
         self.key

@@ -33,6 +33,9 @@ fn is_described_in_its_readme() {
         README.contains(&coverage),
         "list/README.md lacks\n{coverage}"
     );
-    assert!(README.contains(&format!("-- list {} ../crates/replay/data/answers.bin", list::SEED)));
+    assert!(README.contains(&format!(
+        "-- list {} ../crates/replay/data/answers.bin",
+        list::SEED
+    )));
     assert!(README.contains(&format!("{} bytes", ANSWERS.len())));
 }

@@ -5,7 +5,7 @@ use oraclelib::{
     generate::{self, Rng},
     program,
     records::{Entry, Kind, Refusal, Triple, Variant, record},
-    worked,
+    words, worked,
 };
 
 fn printed(input: &[u8]) -> String {
@@ -121,6 +121,26 @@ fn entries_are_refused_with_6() {
         }
     }
     assert_eq!(refused(3, &Entry::new(&[b'm'; 32]).body()), "end 0\n");
+}
+
+#[test]
+fn words_are_refused_with_13_after_6() {
+    let words = words::all();
+    let different: std::collections::BTreeSet<&String> = words.iter().collect();
+    assert_eq!(different.len(), 83);
+    for word in &words {
+        let body = Entry::new(word.as_bytes()).body();
+        assert_eq!(refused(3, &body), "refused 13 at 0\n", "{word}");
+        let mut worse = body.clone();
+        worse[32] = 1;
+        assert_eq!(refused(3, &worse), "refused 6 at 0\n", "{word}");
+    }
+    for word in [
+        "T0", "t8", "t", "t00", "samp", "Main", "mai", "main0", "float5", "m",
+    ] {
+        let body = Entry::new(word.as_bytes()).body();
+        assert_eq!(refused(3, &body), "end 0\n", "{word}");
+    }
 }
 
 #[test]
@@ -246,7 +266,7 @@ fn streams_without_an_aim_reach_every_ending() {
         let last = text.lines().next_back().unwrap();
         endings.insert(last.split(" at ").next().unwrap().to_owned());
     }
-    for number in [1, 2, 3, 4, 5, 6, 7, 9] {
+    for number in [1, 2, 3, 4, 5, 6, 7, 9, 13] {
         assert!(endings.contains(&format!("refused {number}")), "{number}");
     }
     assert!(endings.contains("end 0") && endings.contains("end 2"));

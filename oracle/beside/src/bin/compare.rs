@@ -13,14 +13,15 @@ use beside::{Answer, Bodies, Lent, Report, emitted};
 use oraclelib::{
     emit,
     generate::{self, Rng},
-    records::{Refusal, TRIPLE, Triple},
+    records::{ENTRY, Refusal, TRIPLE, Triple},
+    words,
 };
 use yuzuknoll::{TEXT_LENGTH, raw::Emitted};
 
 const SEED: u64 = 1;
 const COUNT: u64 = 20_000;
 /// Random triples that each wrong function is given, always the same.
-const SELF_TEST: u64 = 500;
+const SELF_TEST: u64 = 2_000;
 /// How many differences are printed.
 const SHOWN: u64 = 10;
 
@@ -84,7 +85,7 @@ struct Run<'a> {
     calls: u64,
     text: usize,
     bytes: usize,
-    refused: [u64; 10],
+    refused: [u64; 14],
     differences: u64,
     shown: u64,
 }
@@ -99,7 +100,7 @@ impl<'a> Run<'a> {
             calls: 0,
             text: 0,
             bytes: 0,
-            refused: [0; 10],
+            refused: [0; 14],
             differences: 0,
             shown: SHOWN,
         }
@@ -142,7 +143,7 @@ impl<'a> Run<'a> {
         self.call(&bodies, few, too_long, &[]);
     }
 
-    /// A triple with a cause of 3, 4, 5 or 6, or several.
+    /// A triple with a cause of 3, 4, 5, 6 or 13, or several.
     fn bad_value(&mut self, mut triple: Triple) {
         let rng = &mut self.rng;
         let causes = 1 + rng.below(15);
@@ -156,12 +157,17 @@ impl<'a> Run<'a> {
             triple.variant.flags |= 0x40 << rng.below(2);
         }
         if causes & 8 != 0 {
-            match rng.below(4) {
+            if rng.one_in(2) {
+                triple.entry = generate::reserved(rng);
+            }
+            match rng.below(7) {
                 0 => triple.entry.length = 0,
                 1 => triple.entry.length = 33 + rng.below(223) as u8,
                 2 => triple.entry.bytes[0] = rng.pick(b"0123456789 .-/:@[`{\0\x80\xff"),
                 // a byte of the name, or of the zeros behind it
-                _ => triple.entry.bytes[rng.below(32)] = rng.pick(b" .-/:@[`{\x01\x80\xff"),
+                3 => triple.entry.bytes[rng.below(32)] = rng.pick(b" .-/:@[`{\x01\x80\xff"),
+                4 => triple.entry.bytes[31] = b'.',
+                _ => {}
             }
         }
         if triple.cause().is_some() {
@@ -237,7 +243,7 @@ impl<'a> Run<'a> {
 
     /// How many calls had to be refused, by number.
     fn refusals(&self) -> String {
-        let numbers = [3, 4, 5, 6, 8];
+        let numbers = [3, 4, 5, 6, 13, 8];
         numbers
             .iter()
             .map(|&n: &usize| format!(" {n}: {}", self.refused[n]))
@@ -252,8 +258,11 @@ enum Wrong {
     Answers4Before3,
     Answers5Before4,
     Answers6Before5,
+    Answers13Before5,
+    Answers13Before6,
     Answers8First,
     PassesSpecular,
+    PassesAWord,
     RefusesAnExactFit,
     ClearsTheByteBehind,
     WritesOnRefusal,
@@ -266,12 +275,15 @@ enum Wrong {
 }
 
 impl Wrong {
-    const ALL: [Self; 14] = [
+    const ALL: [Self; 17] = [
         Self::Answers4Before3,
         Self::Answers5Before4,
         Self::Answers6Before5,
+        Self::Answers13Before5,
+        Self::Answers13Before6,
         Self::Answers8First,
         Self::PassesSpecular,
+        Self::PassesAWord,
         Self::RefusesAnExactFit,
         Self::ClearsTheByteBehind,
         Self::WritesOnRefusal,
@@ -309,6 +321,13 @@ impl Emit for Wrong {
             Self::Answers4Before3 if number == 3 && specular_bad => return 4,
             Self::Answers5Before4 if number == 4 && flags_bad => return 5,
             Self::Answers6Before5 if number == 5 && bodies.entry[0] == 0 => return 6,
+            Self::Answers13Before5 if number == 5 && is_reserved(&bodies.entry) => return 13,
+            Self::Answers13Before6 if number == 6 && is_reserved(&bodies.entry) => return 13,
+            Self::PassesAWord if number == 13 => {
+                let mut passed = *bodies;
+                passed.entry[1] ^= 1;
+                return Archive.emit(&passed, text, result);
+            }
             Self::Answers8First if number != 0 && text.is_empty() => return 8,
             Self::RefusesAnExactFit if number == 0 && text.len() == length => return 8,
             Self::WritesOnRefusal if number != 0 => spoil(text.last_mut()),
@@ -329,6 +348,13 @@ impl Emit for Wrong {
         *result = wanted;
         number
     }
+}
+
+/// Whether the bytes of the name are a reserved word, whatever stands behind them.
+fn is_reserved(entry: &[u8; ENTRY]) -> bool {
+    let [length, name @ ..] = entry;
+    let name = name.get(..usize::from(*length)).unwrap_or_default();
+    str::from_utf8(name).is_ok_and(words::is_reserved)
 }
 
 fn spoil(byte: Option<&mut u8>) {

@@ -9,7 +9,9 @@ mod systematic;
 
 pub use random::{entry, everyday, key, name, triple, variant};
 pub use rng::Rng;
-pub use streams::{Stream, accepted, any, damaged, full, good_record, refused};
+pub use streams::{
+    Stream, accepted, any, bad_entry, damaged, full, good_record, refused, reserved,
+};
 pub use systematic::{SAMPLING, bump_chain, systematic};
 
 /// The ops that have a text.

@@ -137,28 +137,34 @@ pub fn entry(rng: &mut Rng) -> Entry {
     name(rng, length)
 }
 
-/// An entry of the given length; seldom a name that the text uses too.
+/// An entry of the given length; seldom a name that the text uses too, or one beside the reserved words.
 pub fn name(rng: &mut Rng, length: usize) -> Entry {
     const FIRST: &[u8] = b"_ABCDEFGHIJKLMNOPQRSTUVWXYZabcdefghijklmnopqrstuvwxyz";
     const OTHER: &[u8] = b"_ABCDEFGHIJKLMNOPQRSTUVWXYZabcdefghijklmnopqrstuvwxyz0123456789";
-    const USED: [&[u8]; 8] = [
-        b"t0",
-        b"temp",
-        b"ps_c",
-        b"s3",
-        b"float4",
-        b"Varyings",
-        b"current",
-        b"fragment",
+    const USED: [&[u8]; 9] = [
+        b"t",
+        b"t8",
+        b"dot",
+        b"samp",
+        b"level",
+        b"float5",
+        b"Current",
+        b"saturate",
+        b"texcoord0",
     ];
     if let Some(used) = USED.iter().find(|used| used.len() == length)
         && rng.one_in(8)
     {
         return Entry::new(used);
     }
-    let mut bytes: Vec<u8> = (0..length).map(|_| rng.pick(OTHER)).collect();
-    bytes[0] = rng.pick(FIRST);
-    Entry::new(&bytes)
+    loop {
+        let mut bytes: Vec<u8> = (0..length).map(|_| rng.pick(OTHER)).collect();
+        bytes[0] = rng.pick(FIRST);
+        let entry = Entry::new(&bytes);
+        if entry.cause().is_none() {
+            return entry;
+        }
+    }
 }
 
 /// A triple of a usual scene: at most four stages, one or two textures, few variant settings.

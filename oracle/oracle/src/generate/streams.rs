@@ -5,6 +5,7 @@ use crate::{
     emission::emit,
     program::{INPUT_CAP, TEXT_CAP},
     records::{Entry, KEY, Key, Kind, Refusal, STAGES, Triple, record},
+    words,
 };
 
 /// An input, and what it was made to give.
@@ -155,6 +156,7 @@ fn bad_record(rng: &mut Rng, refusal: Refusal) -> Vec<u8> {
             record(Kind::Variant, &bad.body())
         }
         Refusal::Entry => record(Kind::Entry, &bad_entry(rng).body()),
+        Refusal::Word => record(Kind::Entry, &reserved(rng).body()),
         _ => {
             // A bad kind counts before the length, so the body is of any length.
             let above = 5 + rng.below(251) as u8;
@@ -182,8 +184,19 @@ fn bad_specular(rng: &mut Rng) -> Key {
     key
 }
 
-fn bad_entry(rng: &mut Rng) -> Entry {
-    let mut entry = entry(rng);
+/// A reserved word.
+pub fn reserved(rng: &mut Rng) -> Entry {
+    let words = words::all();
+    Entry::new(words[rng.below(words.len())].as_bytes())
+}
+
+/// An entry with cause 6. Every fourth is made from a reserved word, which counts later.
+pub fn bad_entry(rng: &mut Rng) -> Entry {
+    let mut entry = if rng.one_in(4) {
+        reserved(rng)
+    } else {
+        entry(rng)
+    };
     let length = usize::from(entry.length);
     match rng.below(5) {
         0 => entry.length = 0,
@@ -226,6 +239,7 @@ fn cut(rng: &mut Rng) -> Stream {
             Refusal::Specular,
             Refusal::VariantFlag,
             Refusal::Entry,
+            Refusal::Word,
         ]);
         bad_record(rng, bad)
     } else {
@@ -327,7 +341,7 @@ pub fn any(rng: &mut Rng) -> Vec<u8> {
         _ if rng.one_in(100) => full(rng).input,
         _ if rng.one_in(100) => long_input(rng).input,
         _ => {
-            let refusal = rng.pick(&Refusal::ALL[..7]);
+            let refusal = rng.pick(&Refusal::ALL[..8]);
             refused(rng, refusal).input
         }
     }

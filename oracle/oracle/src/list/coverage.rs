@@ -89,7 +89,7 @@ fn places(triple: &Triple) -> impl Iterator<Item = Place<'_>> {
 }
 
 fn refusals(table: &mut Table, cases: &[Case]) {
-    for wanted in &Refusal::ALL[..7] {
+    for wanted in &Refusal::ALL[..8] {
         let found = cases.iter().filter_map(refusal);
         let offsets = found.filter(|(number, _)| *number == wanted.number());
         let offsets: Vec<usize> = offsets.map(|(_, at)| at).collect();

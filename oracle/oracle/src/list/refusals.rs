@@ -4,7 +4,7 @@ use super::{Case, coverage::emissions};
 use crate::{
     generate::{self, Rng, good_record},
     records::{Entry, Key, Kind, Refusal, STAGES, Variant, record},
-    worked,
+    words, worked,
 };
 
 /// Random inputs and outputs are shorter.
@@ -18,6 +18,7 @@ pub fn inputs(rng: &mut Rng) -> Vec<Vec<u8>> {
         speculars(),
         variants(),
         entries(),
+        reserved(),
     ];
     let behind: Vec<Vec<u8>> = alone.iter().flat_map(|bad| some_behind(rng, bad)).collect();
     let alone = alone.concat();
@@ -133,6 +134,15 @@ fn entries() -> Vec<Vec<u8>> {
     inputs
 }
 
+/// Number 13: each word. Behind it, number 6: some with a nonzero tail.
+fn reserved() -> Vec<Vec<u8>> {
+    let words = words::all();
+    let alone = words.iter().map(|word| entry_with(word.as_bytes(), |_| {}));
+    let worse = words.iter().step_by(9);
+    let worse = worse.map(|word| entry_with(word.as_bytes(), |entry| entry.bytes[31] = b'_'));
+    alone.chain(worse).collect()
+}
+
 /// Number 7: each choice of records that is not all three, in each order.
 fn missing(rng: &mut Rng) -> Vec<Vec<u8>> {
     let orders: [&[Kind]; 9] = [
@@ -164,7 +174,7 @@ fn missing(rng: &mut Rng) -> Vec<Vec<u8>> {
 /// Each number behind random records; two of each but 7 behind a printed text.
 fn random(rng: &mut Rng) -> Vec<Vec<u8>> {
     let mut inputs = Vec::new();
-    for &refusal in &Refusal::ALL[..7] {
+    for &refusal in &Refusal::ALL[..8] {
         inputs.extend((0..6).map(|_| refused(rng, refusal, 0)));
         if refusal != Refusal::NothingHeld {
             inputs.extend((0..2).map(|_| refused(rng, refusal, 1)));

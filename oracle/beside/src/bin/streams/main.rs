@@ -28,7 +28,7 @@ use yuzuknoll::{
 const SEED: u64 = 1;
 const COUNT: u64 = 25_000;
 /// Streams that each wrong function is given, always the same.
-const SELF_TEST: u64 = 100;
+const SELF_TEST: u64 = 300;
 /// How many differences are printed.
 const SHOWN: u64 = 10;
 
@@ -113,7 +113,7 @@ fn stream(rng: &mut Rng) -> Stream {
         1 => open(generate::refused(rng, Refusal::LongInput).input),
         2..200 => generate::accepted(rng),
         200..600 => {
-            let refusal = rng.pick(&Refusal::ALL[..8]);
+            let refusal = rng.pick(&Refusal::ALL[..9]);
             generate::refused(rng, refusal)
         }
         600..850 => open(generate::damaged(rng)),
@@ -212,7 +212,7 @@ struct Run<'a> {
     streams: u64,
     /// Calls of the three functions, and refusals that they had to answer, by number.
     calls: [u64; 3],
-    refused: [[u64; 9]; 3],
+    refused: [[u64; 14]; 3],
     ended: u64,
     damaged: u64,
     texts: u64,
@@ -235,7 +235,7 @@ impl<'a> Run<'a> {
             out: Lent::new(),
             streams: 0,
             calls: [0; 3],
-            refused: [[0; 9]; 3],
+            refused: [[0; 14]; 3],
             ended: 0,
             damaged: 0,
             texts: 0,
@@ -450,7 +450,7 @@ impl<'a> Run<'a> {
             self.streams, self.ended, self.damaged
         );
         for (name, function) in [("read", READ), ("write", WRITE), ("apply", APPLY)] {
-            let numbers = (1..9).filter(|&n| self.refused[function][n] != 0);
+            let numbers = (1..14).filter(|&n| self.refused[function][n] != 0);
             let numbers: Vec<String> = numbers
                 .map(|n| format!(" {n}: {}", self.refused[function][n]))
                 .collect();

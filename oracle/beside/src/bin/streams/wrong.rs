@@ -11,11 +11,13 @@ pub enum Wrong {
     ReadNamesAnotherKind,
     ReadPutsKindAfterLength,
     ReadPassesSpecular,
+    ReadPassesAWord,
     ReadReportsAHighBit,
     ReadReportsOnRefusal,
     WriteClearsTheByteBehind,
     WriteWritesOnRefusal,
     WriteAnswersAnotherNumber,
+    WriteAnswers8Before13,
     WriteLeavesTheLastByte,
     WriteReportsNothing,
     WriteReportsOnRefusal,
@@ -32,20 +34,23 @@ pub enum Wrong {
     ApplyLeavesTheResultOfAKey,
     ApplyReportsOnRefusal,
     ApplyAnswers1For7,
+    ApplyAnswers6For13,
     ApplyAnswersNoRoomEarly,
 }
 
 impl Wrong {
-    pub const ALL: [Self; 26] = [
+    pub const ALL: [Self; 29] = [
         Self::ReadTakesOneMore,
         Self::ReadNamesAnotherKind,
         Self::ReadPutsKindAfterLength,
         Self::ReadPassesSpecular,
+        Self::ReadPassesAWord,
         Self::ReadReportsAHighBit,
         Self::ReadReportsOnRefusal,
         Self::WriteClearsTheByteBehind,
         Self::WriteWritesOnRefusal,
         Self::WriteAnswersAnotherNumber,
+        Self::WriteAnswers8Before13,
         Self::WriteLeavesTheLastByte,
         Self::WriteReportsNothing,
         Self::WriteReportsOnRefusal,
@@ -62,6 +67,7 @@ impl Wrong {
         Self::ApplyLeavesTheResultOfAKey,
         Self::ApplyReportsOnRefusal,
         Self::ApplyAnswers1For7,
+        Self::ApplyAnswers6For13,
         Self::ApplyAnswersNoRoomEarly,
     ];
 }
@@ -92,6 +98,13 @@ impl Functions for Wrong {
                 };
                 return 0;
             }
+            Self::ReadPassesAWord if number == 13 => {
+                *report = raw::Record {
+                    kind: ENTRY,
+                    taken: 34,
+                };
+                return 0;
+            }
             Self::ReadReportsAHighBit if accepted => report.kind |= 1 << 63,
             Self::ReadReportsOnRefusal if !accepted => report.taken = 0,
             _ => {}
@@ -114,6 +127,7 @@ impl Functions for Wrong {
             match self {
                 Self::WriteWritesOnRefusal => spoil(out.first_mut()),
                 Self::WriteAnswersAnotherNumber if number == 8 => return 1,
+                Self::WriteAnswers8Before13 if number == 13 && out.len() < 34 => return 8,
                 Self::WriteReportsOnRefusal => report.kind = 0,
                 _ => {}
             }
@@ -139,6 +153,7 @@ impl Functions for Wrong {
                 Self::ApplyWritesOnRefusal => spoil(text.last_mut()),
                 Self::ApplyReportsOnRefusal => report.result = Emitted::default(),
                 Self::ApplyAnswers1For7 if number == 7 => return 1,
+                Self::ApplyAnswers6For13 if number == 13 => return 6,
                 _ => {}
             }
             return number;
