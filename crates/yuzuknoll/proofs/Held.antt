@@ -194,7 +194,8 @@ module _ (held b : List ℕ) (room : ℕ) (w : Bytes b) (h : length held ≡ 113
         entry-laid held (recordBytes (entryRecord e)) h (record-length (entryRecord e) (t .shaped)),
         by-parts held h,
         entry-own e (t .shaped .name),
-        t .free,
+        t .free .0,
+        t .free .1,
       )
 
   kept : (t : Bool) (n : ℕ) (a : Answer) (r : Record) (x : Held) → x ≡ heldAfter (cond t (emissionAnswer n a) (Refused EmitTooEarly)) r x

@@ -29,7 +29,7 @@ free-number : (k : Kind) (r : Record) (n : ℕ) → Free k r → valueNumber k r
 unfolding valueNumber
 free-number kind.Key r n f = rw f
 free-number kind.Variant r n f = rw f
-free-number kind.Entry r n f = rw f
+free-number kind.Entry r n f = rw (f .0, f .1)
 free-number kind.Emit r n f = refl
 
 module _ (b : List ℕ) (z : recordNumber b ≡ 0) where

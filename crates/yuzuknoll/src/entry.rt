@@ -22,9 +22,7 @@ fn pass_of(state: &[u64; 3]) -> Pass
 fn report(pass: Pass, state: &mut [u64; 3])
     ensures { λ _. ⌜ now (state .exit) ≡ stateOf pass ⌝ }
 {
-    state[0] = pass.taken as u64;
-    state[1] = pass.length as u64;
-    state[2] = pass.wrong as u64;
+    *state = [pass.taken as u64, pass.length as u64, pass.wrong as u64];
 }
 
 // The state before the first byte.
