@@ -29,10 +29,10 @@ struct Input {
     length: usize,
 }
 
-// How often a read that was interrupted is tried again. Nothing says that interrupts end, so there is a bound.
+// How often an interrupted read is tried again. Nothing guarantees that interrupts stop, and a proved loop has to end.
 const MOST_TRIES: usize = 1000000;
 
-// What a read of standard input into the front of a buffer answers. One that a signal interrupted is tried again.
+// What a read of standard input into the front of a buffer answers. A read that a signal interrupted is tried again.
 fn read_some(buf: &mut [u8]) -> isize {
     let mut tries = 0;
     while tries < MOST_TRIES {
@@ -61,7 +61,7 @@ fn end_here() -> End {
     End::TooLong
 }
 
-// Standard input to its end, or until the buffer is full. A read may bring few bytes.
+// Standard input to its end, or until the buffer is full. One read may bring fewer bytes than there are.
 fn read_input(input: &mut [u8]) -> Input
     ensures { λ r. ⌜ r .length ≤ length (now (input .exit)) ⌝ }
 {
@@ -96,7 +96,7 @@ fn write_front(buf: &mut [u8], len: usize) -> bool {
     io::write_all(STDOUT_FILENO, &written[..])
 }
 
-// A line and the text behind it, which waits for the line.
+// Whether a line, and then the text behind it, could be written.
 fn write_printed(line: &mut [u8], n: usize, text: &mut [u8], m: usize) -> bool {
     if !write_front(line, n) {
         return false;

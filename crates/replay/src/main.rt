@@ -12,7 +12,7 @@ ghost use lib.ListN.{length};
 // No input and no output of the list is longer.
 const BLOCK_LENGTH: usize = 16384;
 
-// More cases than the list has.
+// More cases than the list has. A proved loop has to end, and nothing says that a file does.
 const MOST_CASES: usize = 100000;
 
 // Whether the first len bytes of s stand at a place of the expected bytes.
