@@ -14,9 +14,9 @@ use borrow.Author.Tests.{le-leb, lt-leb, ne-eqb, leb-true}
 use lib.Dec.{eqb, leb}
 use lib.ListN.{length, take, drop, getD, length-append}
 use lib.Seq.{split-at, length-take-le}
-use Rattle.values.specs.Entries.{all, startsName, continuesName, isIdentifier, entryGood}
+use Rattle.values.specs.Entries.{all, startsName, continuesName, entryGood}
 use Rattle.values.specs.declared.Entry.{Entry}
-use Rattle.admission.specs.Pass.{right, started, stepped, possibleIn, after, possibleAfter, bodyOf, Possible}
+use Rattle.admission.specs.Pass.{right, started, passStepped, possibleIn, passedOver, possibleAfter, bodyOf, Possible}
 use Rattle.admission.specs.declared.Pass.{Pass}
 
 -- one test where b holds, another where it does not
@@ -41,26 +41,28 @@ module _ (len : ℕ) where
   abbrev state : ℕ → ℕ → Pass
   state i w = record { taken = i; length = len; wrong = w }
 
-  step-on : (i w c : ℕ) → 1 ≤ i → i < 255 → stepped (state i w) c ≡ state (suc i) (cond (right i len c) w 1)
-  unfolding stepped
+  step-on : (i w c : ℕ) → 1 ≤ i → i < 255 → passStepped (state i w) c ≡ state (suc i) (cond (right i len c) w 1)
+  unfolding passStepped
   step-on i w c h k =
       let e : (i + 1) % 256 ≡ suc i = mod-eq-of-lt (omega arith) ∙ add-one i in
       let f : eqb i 0 ≡ false = ne-eqb i 0 (λ z. omega arith) in
       rw (e, f)
 
-  steps-on : (i w : ℕ) (l : List ℕ) → 1 ≤ i → i + length l ≤ 255 → after (state i w) l ≡ state (i + length l) (cond (rightFrom i len l) w 1)
-  unfolding after
+  steps-on : (i w : ℕ) (l : List ℕ) → 1 ≤ i → i + length l ≤ 255 → passedOver (state i w) l ≡ state (i + length l) (cond (rightFrom i len l) w 1)
+  unfolding passedOver
   steps-on i w [] h k = ap (λ (n : ℕ). state n w) (omega arith)
   steps-on i w (c ∷ r) h k =
-      ap (λ (p : Pass). after p r) (step-on i w c h (omega arith))
+      ap (λ (p : Pass). passedOver p r) (step-on i w c h (omega arith))
       ∙ steps-on (suc i) (cond (right i len c) w 1) r (omega arith) (omega arith)
       ∙ ap (λ (n : ℕ). state n (cond (rightFrom (suc i) len r) (cond (right i len c) w 1) 1)) (omega arith)
       ∙ ap (state (i + suc (length r))) (kept-wrong (right i len c) (rightFrom (suc i) len r) w)
 
 -- the state behind the front len ∷ l of a body
 front-state : (len : ℕ) (l : List ℕ) → length l ≤ 254 → possibleAfter (len ∷ l) ≡ ((leb 1 len && leb len 32) && rightFrom 1 len l)
-unfolding after stepped right
-front-state len l h = ap possibleIn (steps-on len 1 (cond (leb 1 len && leb len 32) 0 1) l (omega arith) (omega arith)) ∙ decided (leb 1 len && leb len 32) (rightFrom 1 len l)
+unfolding passedOver passStepped right
+front-state len l h =
+    ap possibleIn (steps-on len 1 (cond (leb 1 len && leb len 32) 0 1) l (omega arith) (omega arith))
+    ∙ decided (leb 1 len && leb len 32) (rightFrom 1 len l)
   where
     decided : (a b : Bool) → eqb (cond b (cond a 0 1) 1) 0 ≡ (a && b)
     decided true true = refl
@@ -157,7 +159,10 @@ filling-right len i (suc n) h j k =
     letter true = refl
     letter false = refl
 
-    behind : len < i → (cond (eqb i 1) (startsName (cond (leb i len) (code "a") 0)) (cond (leb i len) (continuesName (cond (leb i len) (code "a") 0)) (true && eqb (cond (leb i len) (code "a") 0) 0)) && true) ≡ true
+    c : ℕ
+    c = cond (leb i len) (code "a") 0
+
+    behind : len < i → (cond (eqb i 1) (startsName c) (cond (leb i len) (continuesName c) (true && eqb c 0)) && true) ≡ true
     behind g =
         let o : eqb i 1 ≡ false = ne-eqb i 1 (λ e. omega arith) in
         rw (o, lt-leb i len g)
@@ -191,24 +196,24 @@ possible-completed [] h p = record { entry = e; whole = filling-length 1 1 32; r
 possible-completed (len ∷ l) h p = completed len l (omega arith) p
 
 -- a wrong byte stays wrong, so a front of what is possible is possible
-still : (p : Pass) (l : List ℕ) → possibleIn (after p l) ≡ true → possibleIn p ≡ true
-unfolding after stepped
+still : (p : Pass) (l : List ℕ) → possibleIn (passedOver p l) ≡ true → possibleIn p ≡ true
+unfolding passedOver passStepped
 still p [] h = h
-still p (c ∷ r) h = before (right (p .taken) (p .length) c) (still (stepped p c) r h)
+still p (c ∷ r) h = before (right (p .taken) (p .length) c) (still (passStepped p c) r h)
   where
     before : (b : Bool) → eqb (cond b (p .wrong) 1) 0 ≡ true → eqb (p .wrong) 0 ≡ true
     before true e = e
     before false e = absurd (let z : _≡_ {A = ℕ} 0 1 = cc in omega arith)
 
-after-append : (p : Pass) (a b : List ℕ) → after p (a ++ b) ≡ after (after p a) b
-unfolding after
-after-append p [] b = refl
-after-append p (c ∷ a) b = after-append (stepped p c) a b
+passedOver-append : (p : Pass) (a b : List ℕ) → passedOver p (a ++ b) ≡ passedOver (passedOver p a) b
+unfolding passedOver
+passedOver-append p [] b = refl
+passedOver-append p (c ∷ a) b = passedOver-append (passStepped p c) a b
 
 possible-begun : (front : List ℕ) → Possible front → possibleAfter front ≡ true
 possible-begun front k =
-    let all = ap (after started) (k .begins) ∙ after-append started front (k .rest) in
-    still (after started front) (k .rest) (sym (ap possibleIn all) ∙ whole-body (k .entry) (k .whole) ∙ k .good)
+    let all = ap (passedOver started) (k .begins) ∙ passedOver-append started front (k .rest) in
+    still (passedOver started front) (k .rest) (sym (ap possibleIn all) ∙ whole-body (k .entry) (k .whole) ∙ k .good)
 
 -- 02: "After every front of a body, the empty and the whole one too, the state must tell whether some body that begins so is free of cause 6"
 pub possible-exactly : (front : List ℕ) → length front ≤ 33 → (possibleAfter front ≡ true → Possible front) × (Possible front → possibleAfter front ≡ true)
@@ -230,7 +235,8 @@ no-byte len c l h p =
 pub impossible-behind : (front : List ℕ) → 33 < length front → possibleAfter front ≡ true → ⊥
 impossible-behind [] h p = omega arith
 impossible-behind (len ∷ l) h p =
-    let e : l ≡ (take 32 l ++ (getD l 32 0 ∷ [])) ++ drop 33 l = split-at l 32 0 (omega arith) ∙ sym (append-assoc (take 32 l) (getD l 32 0 ∷ []) (drop 33 l)) in
+    let e : l ≡ (take 32 l ++ (getD l 32 0 ∷ [])) ++ drop 33 l =
+    split-at l 32 0 (omega arith) ∙ sym (append-assoc (take 32 l) (getD l 32 0 ∷ []) (drop 33 l)) in
     let front = len ∷ (take 32 l ++ (getD l 32 0 ∷ [])) in
-    let a = ap (λ (m : List ℕ). after started (len ∷ m)) e ∙ after-append started front (drop 33 l) in
-    no-byte len (getD l 32 0) (take 32 l) (length-take-le 32 l (omega arith)) (still (after started front) (drop 33 l) (sym (ap possibleIn a) ∙ p))
+    let a = ap (λ (m : List ℕ). passedOver started (len ∷ m)) e ∙ passedOver-append started front (drop 33 l) in
+    no-byte len (getD l 32 0) (take 32 l) (length-take-le 32 l (omega arith)) (still (passedOver started front) (drop 33 l) (sym (ap possibleIn a) ∙ p))

@@ -13,7 +13,7 @@ use lib.ListN.{length, drop, drop-of-length-le}
 use lib.Seq.{drop-at}
 use Rattle.text.specs.Text.{bytes}
 use Rattle.text.specs.Format.{same}
-use Rattle.values.specs.Listed.{singles, families, Name, name, stageIn, inFamilies, inList, listed}
+use Rattle.values.specs.Listed.{singles, families, Name, name, stageIn, inFamilies, inList}
 use Rattle.values.specs.Words.{others, oneOf, isListed, reservedWord}
 use Rattle.admission.specs.Patterns.{fitsByte, fitsFront, fitsOneOf}
 
@@ -116,7 +116,9 @@ of-singles : (l : List String) (k : ℕ) (w : List ℕ) → allPlain l ≡ true 
 of-singles [] k w h = of-families families k w refl
 of-singles (s ∷ l) k w h =
     let e = both (plain (bytes s)) (allPlain l) h in
-    found (same (bytes s) w) (inList l (suc k) w) ∙ rw (same-fits (bytes s) w (e .0), of-singles l (suc k) w (e .1)) (sym (or-assoc (fits (bytes s) w) (fitsAny (wordsOf l) w) (fitsAny (familiesOf families) w)))
+    found (same (bytes s) w) (inList l (suc k) w)
+    ∙ rw (same-fits (bytes s) w (e .0), of-singles l (suc k) w (e .1))
+    (sym (or-assoc (fits (bytes s) w) (fitsAny (wordsOf l) w) (fitsAny (familiesOf families) w)))
   where
     found : (b : Bool) (r : Option Name) → isListed (cond b (some (name k 0)) r) ≡ (b || isListed r)
     found true r = refl
@@ -129,7 +131,12 @@ fitsAny-append (p ∷ a) b w = rw (fitsAny-append a b w) (sym (or-assoc (fits p 
 reserved-patterns : (w : List ℕ) → reservedWord w ≡ fitsAny patterns w
 unfolding reservedWord
 reserved-patterns w =
-    rw (of-singles singles 0 w refl, of-others others w refl, fitsAny-append (wordsOf singles ++ familiesOf families) (wordsOf others) w, fitsAny-append (wordsOf singles) (familiesOf families) w)
+    rw (
+      of-singles singles 0 w refl,
+      of-others others w refl,
+      fitsAny-append (wordsOf singles ++ familiesOf families) (wordsOf others) w,
+      fitsAny-append (wordsOf singles) (familiesOf families) w,
+    )
 
 -- the patterns of a length, behind one another
 abbrev pub ofLength : ℕ → List (List ℕ) → List (List ℕ)
@@ -184,7 +191,9 @@ one-by-one (p ∷ r) w = by (eqb (length p) (length w)) refl (one-by-one r w)
 pub none-behind : (k : ℕ) (p w : List ℕ) → length p < length w → fitsOneOf k (drop (length w) p) w ≡ false
 unfolding fitsOneOf
 none-behind zero p w h = refl
-none-behind (suc k) p w h = let s : length p ≤ length w = omega arith in rw (drop-of-length-le p s, too-short [] w (omega arith)) (none-behind k [] w (omega arith))
+none-behind (suc k) p w h =
+    let s : length p ≤ length w = omega arith in
+    rw (drop-of-length-le p s, too-short [] w (omega arith)) (none-behind k [] w (omega arith))
 
 pub by-length : (w : List ℕ) → fitsOneOf (length (ofLength (length w) patterns)) (joined (ofLength (length w) patterns)) w ≡ reservedWord w
 by-length w = one-by-one patterns w ∙ sym (reserved-patterns w)

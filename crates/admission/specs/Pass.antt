@@ -22,8 +22,8 @@ abbrev pub started : Pass
 started = record { taken = 0; length = 0; wrong = 0 }
 
 -- The state behind one byte more: how many were taken, modulo 256, the length byte, and 1 once a byte was wrong.
-unfoldable pub stepped : Pass → ℕ → Pass
-stepped p c =
+unfoldable pub passStepped : Pass → ℕ → Pass
+passStepped p c =
     record {
       taken = (p .taken + 1) % 256;
       length = cond (eqb (p .taken) 0) c (p .length);
@@ -35,12 +35,12 @@ abbrev pub possibleIn : Pass → Bool
 possibleIn p = eqb (p .wrong) 0
 
 -- the state behind some bytes, and behind a front of a body
-unfoldable pub after : Pass → List ℕ → Pass
-after p [] = p
-after p (c ∷ r) = after (stepped p c) r
+unfoldable pub passedOver : Pass → List ℕ → Pass
+passedOver p [] = p
+passedOver p (c ∷ r) = passedOver (passStepped p c) r
 
 abbrev pub possibleAfter : List ℕ → Bool
-possibleAfter front = possibleIn (after started front)
+possibleAfter front = possibleIn (passedOver started front)
 
 -- the 33 bytes of an entry's body
 abbrev pub bodyOf : Entry → List ℕ

@@ -7,7 +7,7 @@ use values::Entry;
 ghost use mathlib.Core.Path.{_≡_};
 ghost use mathlib.Core.Bool.{cond};
 ghost use Rattle.values.specs.Entries.{entryGood};
-ghost use Rattle.admission.specs.Pass.{possibleIn, right, started, stepped};
+ghost use Rattle.admission.specs.Pass.{possibleIn, right, started, passStepped};
 
 const NAME_BYTES: u8 = 32;
 
@@ -40,7 +40,7 @@ fn either(first: bool, a: u8, b: u8) -> u8
 
 // The state behind one byte more.
 pub fn step(pass: Pass, byte: u8) -> Pass
-    ensures { λ r. ⌜ r ≡ stepped pass byte ⌝ }
+    ensures { λ r. ⌜ r ≡ passStepped pass byte ⌝ }
 {
     let taken = std::num::wrapping_add_u8(pass.taken, 1);
     let length = either(pass.taken == 0, byte, pass.length);

@@ -35,7 +35,8 @@ abbrev first : Bool → Bool → Bool → Bool → Bool → ℕ
 first three five six thirteen eight = cond three 3 (cond five 5 (cond six 6 (cond thirteen 13 (cond eight 8 0))))
 
 by-tests : (P : Answer → Type 0) (m : Emitted) (three five six thirteen eight : Bool) →
-    ((c : Refusal) → first three five six thirteen eight ≡ numberOf c → P (emission.Refused c)) → (first three five six thirteen eight ≡ 0 → P (emission.Text m)) →
+    ((c : Refusal) → first three five six thirteen eight ≡ numberOf c → P (emission.Refused c)) →
+    (first three five six thirteen eight ≡ 0 → P (emission.Text m)) →
     P (cond three (emission.Refused StageFlags) (cond five (emission.Refused VariantFlags) (cond six (emission.Refused EntryName)
     (cond thirteen (emission.Refused ReservedWord) (cond eight (emission.Refused NoRoom) (emission.Text m))))))
 by-tests P m true five six thirteen eight f g = f StageFlags refl

@@ -19,7 +19,7 @@ use Rattle.values.specs.declared.Answer.the-variants as answer
 use Rattle.values.specs.declared.Refusal.{Refusal}
 use Rattle.values.specs.declared.Refusal.the-variants.{EmitTooEarly}
 use Rattle.wire.specs.Bodies.{kindByte, bodyLength, recordLength, specularByte, keyFromBody, variantFromBody, entryFromBody, keyBytes, variantBytes, entryBytes, bodyBytes, recordBytes}
-use Rattle.wire.specs.Reading.{readRecord, refused, took, bodyNumber, recordNumber}
+use Rattle.wire.specs.Reading.{refused, took, bodyNumber, recordNumber}
 use Rattle.wire.specs.Values.{keyRecord, variantRecord, entryRecord, emitRecord}
 use Rattle.wire.specs.declared.Kind.{Kind}
 use Rattle.wire.specs.declared.Kind.the-variants as kind
@@ -29,7 +29,6 @@ use Rattle.wire.proofs.Bodies.{Bytes, record-length, key-back, specular-back, v
 use Rattle.wire.proofs.Found.{Taken, read-cases}
 use Rattle.records.specs.Applying.{holdsAll, holding, emissionAnswer, applyAs, applyRead, heldAfter, applied, appliedNumber}
 use Rattle.records.specs.declared.Held.{Held}
-use Rattle.records.specs.declared.ApplyAnswer.{ApplyAnswer}
 use Rattle.records.specs.declared.ApplyAnswer.the-variants.{Refused}
 use Rattle.yuzuknoll.specs.Lent.{after}
 use Rattle.yuzuknoll.specs.Records.{kindIn}
@@ -143,7 +142,8 @@ module _ (held v : List ℕ) (h : length held ≡ 113) where
   entry-laid : length v ≡ 34 → heldOf (sets held 79 v) ≡ heldIn (part kind.Key held) (part kind.Variant held) v
   entry-laid e =
       laid-parts kind.Entry e
-      ∙ rw (before held v 79 kind.Key (omega arith) (omega arith), before held v 79 kind.Variant (omega arith) (omega arith), laid kind.Entry held v e (omega arith))
+      ∙ rw
+      (before held v 79 kind.Key (omega arith) (omega arith), before held v 79 kind.Variant (omega arith) (omega arith), laid kind.Entry held v e (omega arith))
 
 -- What was read, applied to held bytes and to the values that they stand for.
 module _ (held b : List ℕ) (room : ℕ) (w : Bytes b) (h : length held ≡ 113) where

@@ -78,7 +78,8 @@ module _ (b out rec : List ℕ) where
     write-copied w h p q = (
       sym (copied b out n w z (sym size) h .0),
       (
-        whole p (omega (arith, length-take-le n b (bytes-within b z g l))) ∙ ap (λ (x : List ℕ). atFront x out) (ap (λ (m : ℕ). take m b) size ∙ sym (bytes-taken b z w)),
+        whole p (omega (arith, length-take-le n b (bytes-within b z g l)))
+            ∙ ap (λ (x : List ℕ). atFront x out) (ap (λ (m : ℕ). take m b) size ∙ sym (bytes-taken b z w)),
         q ∙ ap recordNumbers g,
       ),
     )

@@ -27,15 +27,30 @@ ghost use Rattle.yuzuknoll.specs.Lent.{ReportedDemand3, after, recordNum
 ghost use Rattle.yuzuknoll.specs.Records.{kindIn};
 ghost use Rattle.yuzuknoll.specs.Applying.{appliedNumbers, heldOf, heldWith, noResult, placeOf, resultWith, textWith};
 
+// The held bytes: the records of a key, a variant and an entry, each a kind byte and a body.
+const KEY_PLACE: usize = 0;
+
+const KEY_BODY: usize = 1;
+
+const VARIANT_PLACE: usize = 59;
+
+const VARIANT_BODY: usize = 60;
+
+const ENTRY_PLACE: usize = 79;
+
+const ENTRY_BODY: usize = 80;
+
+const HELD_LENGTH: usize = 113;
+
 // Where the record of a kind begins in the held bytes.
 fn place_of(kind: Kind) -> usize
     ensures { λ r. ⌜ r ≡ placeOf kind ⌝ }
 {
     match kind {
-        Kind::Key => 0,
-        Kind::Variant => 59,
-        Kind::Entry => 79,
-        Kind::Emit => 113,
+        Kind::Key => KEY_PLACE,
+        Kind::Variant => VARIANT_PLACE,
+        Kind::Entry => ENTRY_PLACE,
+        Kind::Emit => HELD_LENGTH,
     }
 }
 
@@ -51,9 +66,17 @@ fn holds_all(held: &[u8]) -> bool
     requires { ⌜ length (now held) ≡ 113 ⌝ }
     ensures { λ r. ⌜ r ≡ holdsAll (heldOf (now (held .entry))) ⌝ }
 {
-    let key = part_held(Kind::Key, held[0], &held[1..59]);
-    let variant = part_held(Kind::Variant, held[59], &held[60..79]);
-    let entry = part_held(Kind::Entry, held[79], &held[80..113]);
+    let key = part_held(Kind::Key, held[KEY_PLACE], &held[KEY_BODY..VARIANT_PLACE]);
+    let variant = part_held(
+        Kind::Variant,
+        held[VARIANT_PLACE],
+        &held[VARIANT_BODY..ENTRY_PLACE],
+    );
+    let entry = part_held(
+        Kind::Entry,
+        held[ENTRY_PLACE],
+        &held[ENTRY_BODY..HELD_LENGTH],
+    );
     key & (variant & entry)
 }
 
@@ -68,9 +91,9 @@ fn emit_held(held: &[u8], text: &mut [u8], result: &mut [u64; 5]) -> u64
     if !holds_all(held) {
         return refuse(Refusal::EmitTooEarly);
     }
-    let key = key_from_body(&held[1..59]);
-    let variant = variant_from_body(&held[60..79]);
-    let entry = entry_from_body(&held[80..113]);
+    let key = key_from_body(&held[KEY_BODY..VARIANT_PLACE]);
+    let variant = variant_from_body(&held[VARIANT_BODY..ENTRY_PLACE]);
+    let entry = entry_from_body(&held[ENTRY_BODY..HELD_LENGTH]);
     emit_values(key, variant, entry, text, result)
 }
 

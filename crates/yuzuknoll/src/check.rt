@@ -20,16 +20,29 @@ ghost use Rattle.values.specs.Flags.{stageFlagsBad};
 ghost use Rattle.wire.specs.Bodies.{bodyLength, keyFromBody};
 ghost use Rattle.wire.specs.Reading.{bodyNumber, byKind, recordNumber};
 
+// The lowest flag bit without a meaning: bit 2 of a stage, bit 6 of a variant.
+const UNUSED_STAGE_FLAG: u8 = 4;
+
+const UNUSED_VARIANT_FLAG: u8 = 64;
+
+// Where a key's body has its specular byte, and a variant's its flags.
+const SPECULAR_AT: usize = 56;
+
+const VARIANT_FLAGS_AT: usize = 18;
+
 // The flags of a stage are the last of its seven bytes.
 fn key_flags_bad(body: &[u8]) -> bool
     requires { ⌜ bodyLength Kind.Key ≤ length (now body) ⌝ }
     ensures { λ r. ⌜ r ≡ stageFlagsBad (keyFromBody (now (body .entry)) .stages) ⌝ }
 {
-    (4 <= body[6])
-        | ((4 <= body[13])
-            | ((4 <= body[20])
-                | ((4 <= body[27])
-                    | ((4 <= body[34]) | ((4 <= body[41]) | ((4 <= body[48]) | (4 <= body[55])))))))
+    (UNUSED_STAGE_FLAG <= body[6])
+        | ((UNUSED_STAGE_FLAG <= body[13])
+            | ((UNUSED_STAGE_FLAG <= body[20])
+                | ((UNUSED_STAGE_FLAG <= body[27])
+                    | ((UNUSED_STAGE_FLAG <= body[34])
+                        | ((UNUSED_STAGE_FLAG <= body[41])
+                            | ((UNUSED_STAGE_FLAG <= body[48])
+                                | (UNUSED_STAGE_FLAG <= body[55])))))))
 }
 
 pub(crate) fn key_number(body: &[u8]) -> u64
@@ -39,7 +52,7 @@ pub(crate) fn key_number(body: &[u8]) -> u64
     if key_flags_bad(body) {
         return refuse(Refusal::StageFlags);
     }
-    if 1 < body[56] {
+    if 1 < body[SPECULAR_AT] {
         return refuse(Refusal::SpecularAdd);
     }
     ACCEPTED
@@ -49,7 +62,7 @@ pub(crate) fn variant_number(body: &[u8]) -> u64
     requires { ⌜ bodyLength Kind.Variant ≤ length (now body) ⌝ }
     ensures { λ r. ⌜ r ≡ bodyNumber Kind.Variant (now (body .entry)) ⌝ }
 {
-    if 64 <= body[18] {
+    if UNUSED_VARIANT_FLAG <= body[VARIANT_FLAGS_AT] {
         return refuse(Refusal::VariantFlags);
     }
     ACCEPTED

@@ -5,7 +5,7 @@ use admission::entry::start;
 use admission::entry::step;
 ghost use mathlib.Core.Path.{_≡_};
 ghost use mathlib.Core.Bool.{cond};
-ghost use Rattle.admission.specs.Pass.{possibleIn, started, stepped};
+ghost use Rattle.admission.specs.Pass.{possibleIn, started, passStepped};
 ghost use Rattle.yuzuknoll.specs.Entries.{passOf, stateOf};
 
 // The state that three numbers stand for, each modulo 256, so that no number is out of range.
@@ -36,7 +36,7 @@ pub extern "C" fn yuzuknoll_entry_start(state: &mut [u64; 3])
 // The state behind one byte more.
 #[no_mangle]
 pub extern "C" fn yuzuknoll_entry_step(state: &mut [u64; 3], byte: u8)
-    ensures { λ _. ⌜ now (state .exit) ≡ stateOf (stepped (passOf (now (state .entry))) byte) ⌝ }
+    ensures { λ _. ⌜ now (state .exit) ≡ stateOf (passStepped (passOf (now (state .entry))) byte) ⌝ }
 {
     let pass = pass_of(state);
     report(step(pass, byte), state);

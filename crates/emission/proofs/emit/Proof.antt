@@ -40,7 +40,8 @@ returns-4 : tie.Need-returns-4
 returns-4 c =
     let s3 = c .before .before in
     let s2 = s3 .before .before in
-    let a = reserved-word _ _ _ _ (stages-pass (s2 .before .before)) (variant-passes s2) (entry-passes s3) (sym (c .before .entry-reserved .ensures) ∙ c .if4 .taken) in
+    let word = sym (c .before .entry-reserved .ensures) ∙ c .if4 .taken in
+    let a = reserved-word _ _ _ _ (stages-pass (s2 .before .before)) (variant-passes s2) (entry-passes s3) word in
     (a, (refl, (tt, numbered _ _ _ _ a)))
 
 emit-checked-requires : tie.Need-emit-checked-requires

@@ -4,33 +4,32 @@ use mathlib.Core.Path.{_≡_, refl, sym, ap, _∙_}
 use mathlib.Core.List.{List}
 use native.Mathlib.Numerals.{add-one}
 use native.Mathlib.Omega.{arith}
-use borrow.Author.Needs.{needs}
 use lib.ListN.{length, drop, getD, drop-of-length-le, length-map}
 use lib.Seq.{drop-cons}
 use Rattle.values.specs.declared.Entry.{Entry}
-use Rattle.admission.specs.Pass.{started, stepped, possibleIn, after, bodyOf}
+use Rattle.admission.specs.Pass.{started, passStepped, possibleIn, passedOver, bodyOf}
 use Rattle.admission.specs.declared.Pass.{Pass}
 use Rattle.admission.proofs.Passes.{whole-body}
 use Rattle.admission.proofs.entry.entry_good.Statement.{statement}
 use Rattle.admission.proofs.entry.entry_good.Tie as tie
 
 abbrev Inv-loop : tie.InvT-loop
-Inv-loop name pass₀ i₀ pass i = (i ≤ 32) × (length name ≡ 32) × (after pass (drop i name) ≡ after pass₀ name)
+Inv-loop name pass₀ i₀ pass i = (i ≤ 32) × (length name ≡ 32) × (passedOver pass (drop i name) ≡ passedOver pass₀ name)
 
 abbrev μ-loop : tie.MeasureT-loop
 μ-loop name pass₀ i₀ pass i = 32 - i
 
 -- a byte more is taken; the last byte was taken
-taken-on : (p : Pass) (l : List ℕ) (i : ℕ) → i < length l → after (stepped p (getD l i 0)) (drop (i + 1) l) ≡ after p (drop i l)
-unfolding after
+taken-on : (p : Pass) (l : List ℕ) (i : ℕ) → i < length l → passedOver (passStepped p (getD l i 0)) (drop (i + 1) l) ≡ passedOver p (drop i l)
+unfolding passedOver
 taken-on p l i h = rw (add-one, drop-cons l i 0 h)
 
-taken-all : (p : Pass) (l : List ℕ) (i : ℕ) → length l ≤ i → p ≡ after p (drop i l)
-unfolding after
+taken-all : (p : Pass) (l : List ℕ) (i : ℕ) → length l ≤ i → p ≡ passedOver p (drop i l)
+unfolding passedOver
 taken-all p l i h = rw (drop-of-length-le l h)
 
-begun : (p q : Pass) (e : Entry) → p ≡ stepped q (e .len) → q ≡ started → after p (e .name) ≡ after started (bodyOf e)
-unfolding after
+begun : (p q : Pass) (e : Entry) → p ≡ passStepped q (e .len) → q ≡ started → passedOver p (e .name) ≡ passedOver started (bodyOf e)
+unfolding passedOver
 begun p q e f g = rw (f, g)
 
 named : (s : tie.Start Inv-loop μ-loop) → length (s .args .entry .name) ≡ 32

@@ -1,9 +1,5 @@
 -- The tests of a place exclude each other, so that one of them decides.
-use mathlib.Core.Path.{_∙_}
-use mathlib.Core.Bool.{_&&_, cond}
-use lib.Dec.{eqb, leb}
 use borrow.Author.Needs.{needs}
-use Rattle.values.specs.Entries.{startsName, continuesName}
 use Rattle.admission.specs.Pass.{right}
 use Rattle.admission.proofs.Passes.{chosen}
 use Rattle.admission.proofs.entry.right_at.Statement.{statement}

@@ -1,11 +1,11 @@
 -- Each number of the state by what its callee promises.
 use borrow.Author.Needs.{needs}
-use Rattle.admission.specs.Pass.{stepped}
+use Rattle.admission.specs.Pass.{passStepped}
 use Rattle.admission.proofs.entry.step.Statement.{statement}
 use Rattle.admission.proofs.entry.step.Tie as tie
 
 returns : tie.Need-returns
-unfolding stepped
+unfolding passStepped
 returns c =
     let s3 = c .before in
     let s2 = s3 .before in

@@ -1,5 +1,5 @@
 -- The name is the front of the 32 bytes; a length above 32 leaves all of them, and no word is that long.
-use Prim.Native.Nat.{ℕ, _<_}
+use Prim.Native.Nat.{_<_}
 use mathlib.Core.Path.{_≡_, sym, _∙_}
 use mathlib.Core.Bool.{false}
 use native.Mathlib.Omega.{arith}

@@ -1,7 +1,7 @@
 -- The loop keeps that the patterns to come decide; one that fits decides at once, and so do patterns that are too short.
 use Prim.Native.Nat.{ℕ, zero, suc, _+_, _-_, _≤_, _<_}
 use mathlib.Core.Path.{_≡_, refl, sym, ap, _∙_}
-use mathlib.Core.Bool.{Bool, true, false, _||_}
+use mathlib.Core.Bool.{Bool, false, _||_}
 use mathlib.Core.List.{List}
 use native.Mathlib.Omega.{arith}
 use borrow.Author.Needs.{needs}
@@ -17,7 +17,8 @@ part : (p w : List ℕ) (at : ℕ) {b : Bool} → b ≡ fitsFront (take (length 
 part p w at e = ap (λ (l : List ℕ). fitsFront l w) (sym (take-all (length p - at) (drop at p) (simp length-drop (omega arith)))) ∙ sym e
 
 -- the pattern at a place decides, or those behind it
-next : (p w : List ℕ) (at k : ℕ) {b : Bool} → 0 < k → fitsFront (drop at p) w ≡ b → (b || fitsOneOf (k - 1) (drop (at + length w) p) w) ≡ fitsOneOf k (drop at p) w
+next : (p w : List ℕ) (at k : ℕ) {b : Bool} → 0 < k → fitsFront (drop at p) w ≡ b
+    → (b || fitsOneOf (k - 1) (drop (at + length w) p) w) ≡ fitsOneOf k (drop at p) w
 unfolding fitsOneOf
 next p w at zero h f = absurd (omega arith)
 next p w at (suc k) h f = let e : suc k - 1 ≡ k = omega arith in rw (e, f, drop-drop (length w) at p)
@@ -40,14 +41,16 @@ returns c =
     let m = c .before .before .before .before in
     let l = m .loop in
     let a = m .before .before .before .args in
-    next (a .patterns .now) (a .name .now) (l .at) (l .left) (omega arith) (part (a .patterns .now) (a .name .now) (l .at) (c .before .fits-front .ensures) ∙ c .if1 .taken) ∙ l .inv .2
+    next (a .patterns .now) (a .name .now) (l .at) (l .left) (omega arith)
+    (part (a .patterns .now) (a .name .now) (l .at) (c .before .fits-front .ensures) ∙ c .if1 .taken) ∙ l .inv .2
 
 returns-2 : tie.Need-returns-2 Inv-loop μ-loop
 returns-2 c =
     let m = c .before .before .before .before .before in
     let l = m .loop in
     let a = m .before .before .before .args in
-    let n = next (a .patterns .now) (a .name .now) (l .at) (l .left) (omega arith) (part (a .patterns .now) (a .name .now) (l .at) (c .before .before .fits-front .ensures) ∙ c .before .if1 .left) in
+    let n = next (a .patterns .now) (a .name .now) (l .at) (l .left) (omega arith)
+    (part (a .patterns .now) (a .name .now) (l .at) (c .before .before .fits-front .ensures) ∙ c .before .if1 .left) in
     sym (short (a .patterns .now) (a .name .now) (l .at) (l .left - 1) (omega arith) (omega arith)) ∙ n ∙ l .inv .2
 
 loop-again : tie.Need-loop-again Inv-loop μ-loop
@@ -55,7 +58,8 @@ loop-again c =
     let m = c .before .before .before .before .before in
     let l = m .loop in
     let a = m .before .before .before .args in
-    let n = next (a .patterns .now) (a .name .now) (l .at) (l .left) (omega arith) (part (a .patterns .now) (a .name .now) (l .at) (c .before .before .fits-front .ensures) ∙ c .before .if1 .left) in
+    let n = next (a .patterns .now) (a .name .now) (l .at) (l .left) (omega arith)
+    (part (a .patterns .now) (a .name .now) (l .at) (c .before .before .fits-front .ensures) ∙ c .before .if1 .left) in
     (refl, omega arith, n ∙ l .inv .2)
 
 returns-3 : tie.Need-returns-3 Inv-loop μ-loop

@@ -18,7 +18,8 @@ returns-2 c =
     let s2 = c .before .before in
     let s1 = s2 .before in
     let s = s1 .before in
-    rw (← s .before .entry-from-body .ensures, sym (s .entry-good .ensures) ∙ not-false _ (s1 .if1 .left), sym (s2 .entry-reserved .ensures) ∙ c .before .if2 .taken)
+    let word = sym (s2 .entry-reserved .ensures) ∙ c .before .if2 .taken in
+    rw (← s .before .entry-from-body .ensures, sym (s .entry-good .ensures) ∙ not-false _ (s1 .if1 .left), word)
     (c .refuse2 .ensures)
 
 returns-3 : tie.Need-returns-3

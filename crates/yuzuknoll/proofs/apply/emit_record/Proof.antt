@@ -10,7 +10,9 @@ returns c = emit-refused _ _ _ _ (c .before .before .before .emit-held .ensures)
 returns-2 : tie.Need-returns-2
 returns-2 c =
     let s1 = c .before .before in
-    emit-applied _ _ (s1 .before .before .before .before .before .before .before .before .args .applied .now) _ (s1 .before .before .before .emit-held .ensures) (s1 .if1 .left) (c .report-applied .ensures)
+    let held = s1 .before .before .before in
+    let s = held .before .before .before .before .before in
+    emit-applied _ _ (s .args .applied .now) _ (held .emit-held .ensures) (s1 .if1 .left) (c .report-applied .ensures)
 
 pub emit-record-spec : {M : Type 1} → statement M
 emit-record-spec =

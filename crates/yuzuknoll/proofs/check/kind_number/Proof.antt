@@ -9,7 +9,8 @@ use Rattle.yuzuknoll.proofs.check.kind_number.Tie as tie
 
 returns : tie.Need-returns
 returns c =
-    let a = c .before .before .before .before .args in cut-short (a .kind) (a .body .now) (c .before .before .body-length .ensures) (c .before .if1 .taken) (c .refuse .ensures)
+    let a = c .before .before .before .before .args in
+    cut-short (a .kind) (a .body .now) (c .before .before .body-length .ensures) (c .before .if1 .taken) (c .refuse .ensures)
 
 returns-2 : tie.Need-returns-2
 returns-2 c =
@@ -29,7 +30,8 @@ returns-4 c =
 returns-5 : tie.Need-returns-5
 unfolding bodyNumber
 returns-5 c =
-    let s1 = c .before .before in not-short (s1 .before .before .before .args .body .now) (s1 .before .body-length .ensures) (c .enum-told4 .given .1) (s1 .if1 .left) refl
+    let s1 = c .before .before in
+    not-short (s1 .before .before .before .args .body .now) (s1 .before .body-length .ensures) (c .enum-told4 .given .1) (s1 .if1 .left) refl
 
 pub kind-number-spec : {M : Type 1} → statement M
 kind-number-spec =

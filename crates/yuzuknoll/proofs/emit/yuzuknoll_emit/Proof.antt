@@ -41,7 +41,8 @@ returns-4 c =
     let s3 = k .before .before in
     let s2 = s3 .before .before .before in
     let s1 = s2 .before .before .before in
-    bodies-emitted _ _ _ _ _ (s1 .before .key-number .ensures) (s1 .if1 .left) (k .key-from-body .ensures) (v .variant-from-body .ensures) (e .entry-from-body .ensures)
+    bodies-emitted _ _ _ _ _ (s1 .before .key-number .ensures) (s1 .if1 .left)
+    (k .key-from-body .ensures) (v .variant-from-body .ensures) (e .entry-from-body .ensures)
     (m .emit-values .ensures)
 
 pub yuzuknoll-emit-spec : {M : Type 1} → statement M

@@ -14,7 +14,8 @@ returns-2 : tie.Need-returns-2
 returns-2 c =
     let size = c .before .before in
     let s1 = size .before .before in
-    write-over _ _ _ (sym (s1 .before .record-number .ensures) ∙ s1 .if1 .left) (size .before .kind-in .ensures) (size .record-length .ensures) (c .before .if2 .taken)
+    write-over _ _ _ (sym (s1 .before .record-number .ensures) ∙ s1 .if1 .left)
+    (size .before .kind-in .ensures) (size .record-length .ensures) (c .before .if2 .taken)
     (c .refuse .ensures)
 
 slice-aggregate-put : tie.Need-slice-aggregate-put
@@ -33,7 +34,8 @@ returns-3 c =
     let known = s1 .before .before .before in
     let s = known .before in
     let bytes : Bytes (s .args .bytes .now) = λ i. known .shared-slice-known .given i .fits in
-    write-copied (s .args .bytes .now) _ (s .args .«record» .now) (sym (s1 .before .record-number .ensures) ∙ s1 .if1 .left) (size .before .kind-in .ensures) (size .record-length .ensures) bytes
+    write-copied (s .args .bytes .now) _ (s .args .«record» .now) (sym (s1 .before .record-number .ensures) ∙ s1 .if1 .left)
+    (size .before .kind-in .ensures) (size .record-length .ensures) bytes
     (s2 .if2 .left) (w .put .ensures .written) (c .report-record .ensures)
 
 pub yuzuknoll-write-spec : {M : Type 1} → statement M
