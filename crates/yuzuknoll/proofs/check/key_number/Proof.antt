@@ -1,6 +1,9 @@
 -- Each test is one that the key's number goes by.
 use mathlib.Core.Path.{sym, _∙_}
+use Prim.Native.Nat.{_<_, _≤_}
+use native.Mathlib.Omega.{arith}
 use borrow.Author.Tests.{lt-ltb, le-ltb}
+use Rattle.wire.specs.Bodies.{specularByte}
 use Rattle.wire.specs.Reading.{bodyNumber}
 use borrow.Author.Needs.{needs}
 use Rattle.yuzuknoll.proofs.check.key_number.Statement.{statement}
@@ -14,12 +17,15 @@ returns-2 : tie.Need-returns-2
 unfolding bodyNumber
 returns-2 c =
     let s1 = c .before .before .before in
-    rw (sym (s1 .before .key-flags-bad .ensures) ∙ s1 .if1 .left, lt-ltb _ _ (c .before .if2 .taken)) (c .refuse2 .ensures)
+    let above : 1 < specularByte (s1 .before .before .before .args .body .now) = omega arith in
+    rw (sym (s1 .before .key-flags-bad .ensures) ∙ s1 .if1 .left, lt-ltb _ _ above) (c .refuse2 .ensures)
 
 returns-3 : tie.Need-returns-3
 unfolding bodyNumber
 returns-3 c =
-    let s1 = c .before .before in rw (sym (s1 .before .key-flags-bad .ensures) ∙ s1 .if1 .left, le-ltb _ _ (c .if2 .left))
+    let s1 = c .before .before in
+    let good : specularByte (s1 .before .before .before .args .body .now) ≤ 1 = omega arith in
+    rw (sym (s1 .before .key-flags-bad .ensures) ∙ s1 .if1 .left, le-ltb _ _ good)
 
 pub key-number-spec : {M : Type 1} → statement M
 key-number-spec =
