@@ -80,15 +80,15 @@ module _ (k : Key) (v : Variant) (e : Entry) (room : ℕ) where
 pub accepted : (k : Key) (v : Variant) (e : Entry) (u : Survey) (at lookups : ℕ) → u ≡ surveyOf (k .stages) → at ≡ length (textOf k v e)
     → lookups ≡ lookupsOf (u .live) (active (k .stages))
     → record {
-        length = at;
-        mask = u .mask;
-        rows = u .rows;
-        lookups = lookups;
-        «op_warnings» = u .«op_warnings»;
-        «selector_warnings» = u .«selector_warnings»;
-        «modifier_warnings» = u .«modifier_warnings»;
-        «alpha_warning» = alphaWarning v;
-      }
+      length = at;
+      mask = u .mask;
+      rows = u .rows;
+      lookups = lookups;
+      «op_warnings» = u .«op_warnings»;
+      «selector_warnings» = u .«selector_warnings»;
+      «modifier_warnings» = u .«modifier_warnings»;
+      «alpha_warning» = alphaWarning v;
+    }
     ≡ emittedOf k v e
 unfolding surveyOf
 accepted k v e u at lookups hu ha hl = rw (hl, ha, hu)

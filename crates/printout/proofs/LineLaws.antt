@@ -36,16 +36,18 @@ unfolding decimalOf
 digits-short zero n = omega arith
 digits-short (suc d) n = one-more (ltb n 10) d (48 + n) (48 + n % 10) (flat (decimalOf d (n / 10))) (digits-short d (n / 10))
 
-emit-short : (e : Emitted) → length (emitLine e) ≤ 89
+emit-short : (e : Emitted) → length (emitLine e) ≤ 152
 unfolding emitLine
 emit-short e =
-    simp length-append (omega (arith, digits-short 20 (e .mask), digits-short 20 (e .rows), digits-short 20 (e .lookups), digits-short 20 (e .warning)))
+    let counts = (digits-short 20 (e .mask), digits-short 20 (e .rows), digits-short 20 (e .lookups)) in
+    let warnings = (digits-short 20 (e .«op_warnings»), digits-short 20 (e .«selector_warnings»), digits-short 20 (e .«modifier_warnings»)) in
+    simp length-append (omega (arith, counts .0, counts .1, counts .2, warnings .0, warnings .1, warnings .2, digits-short 20 (cond (e .«alpha_warning») 1 0)))
 
-end-short : (n : ℕ) → length (endLine n) ≤ 89
+end-short : (n : ℕ) → length (endLine n) ≤ 152
 unfolding endLine
 end-short n = simp length-append (omega (arith, digits-short 20 n))
 
-refused-short : (c : Refusal) (p : ℕ) → length (refusedLine c p) ≤ 89
+refused-short : (c : Refusal) (p : ℕ) → length (refusedLine c p) ≤ 152
 unfolding refusedLine
 refused-short c p = simp length-append (omega (arith, digits-short 20 (numberOf c), digits-short 20 p))
 
@@ -53,17 +55,17 @@ refused-short c p = simp length-append (omega (arith, digits-short 20 (numberOf 
 abbrev Line : List ℕ → List ℕ → List ℕ → ℕ → Type 0
 Line line l l′ n = (n ≡ length line) × (l′ ≡ lineAfter line l)
 
-front-line : {l l′ : List ℕ} {n : ℕ} {t : Text} → Wrote l 0 l′ n t → length (flat t) ≤ 89 → length l ≡ 96 → Line (flat t) l l′ n
+front-line : {l l′ : List ℕ} {n : ℕ} {t : Text} → Wrote l 0 l′ n t → length (flat t) ≤ 152 → length l ≡ 160 → Line (flat t) l l′ n
 front-line w s h = (omega (arith, w .fits (omega arith) .1), whole w (omega arith))
 
-pub emit-line : {l l′ : List ℕ} {n : ℕ} (e : Emitted) → Wrote l 0 l′ n (emitText e) → length l ≡ 96 → Line (emitLine e) l l′ n
+pub emit-line : {l l′ : List ℕ} {n : ℕ} (e : Emitted) → Wrote l 0 l′ n (emitText e) → length l ≡ 160 → Line (emitLine e) l l′ n
 unfolding emitLine
 emit-line e w h = front-line w (emit-short e) h
 
-pub end-line : {l l′ : List ℕ} {n : ℕ} (m : ℕ) → Wrote l 0 l′ n (endText m) → length l ≡ 96 → Line (endLine m) l l′ n
+pub end-line : {l l′ : List ℕ} {n : ℕ} (m : ℕ) → Wrote l 0 l′ n (endText m) → length l ≡ 160 → Line (endLine m) l l′ n
 unfolding endLine
 end-line m w h = front-line w (end-short m) h
 
-pub refused-line : {l l′ : List ℕ} {n : ℕ} (c : Refusal) (p : ℕ) → Wrote l 0 l′ n (refusedText c p) → length l ≡ 96 → Line (refusedLine c p) l l′ n
+pub refused-line : {l l′ : List ℕ} {n : ℕ} (c : Refusal) (p : ℕ) → Wrote l 0 l′ n (refusedText c p) → length l ≡ 160 → Line (refusedLine c p) l l′ n
 unfolding refusedLine
 refused-line c p w h = front-line w (refused-short c p) h

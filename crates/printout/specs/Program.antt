@@ -23,11 +23,18 @@ inputRoom = 32768
 abbrev pub textRoom : ℕ
 textRoom = 16384
 
--- 01: "`emit` fields, decimal: mask, rows, lookups, warning."
+-- 01: "`emit` fields, decimal: mask, rows, lookups"; 02: "prints these four, decimal, yes as 1 and no as 0, in place of the sum"
 abbrev pub emitText : Emitted → Text
 emitText e =
-    (format "emit {mask} {rows} {lookups} {warning}\n"
-    (("mask" ≔ decimal (e .mask)) ∷ ("rows" ≔ decimal (e .rows)) ∷ ("lookups" ≔ decimal (e .lookups)) ∷ ("warning" ≔ decimal (e .warning)) ∷ []))
+    format "emit {mask} {rows} {lookups} {op} {selector} {modifier} {alpha}\n"
+    (("mask" ≔ decimal (e .mask))
+    ∷ ("rows" ≔ decimal (e .rows))
+    ∷ ("lookups" ≔ decimal (e .lookups))
+    ∷ ("op" ≔ decimal (e .«op_warnings»))
+    ∷ ("selector" ≔ decimal (e .«selector_warnings»))
+    ∷ ("modifier" ≔ decimal (e .«modifier_warnings»))
+    ∷ ("alpha" ≔ decimal (cond (e .«alpha_warning») 1 0))
+    ∷ [])
 
 unfoldable pub emitLine : Emitted → List ℕ
 emitLine e = flat (emitText e)

@@ -12,7 +12,7 @@ ghost use Rattle.text.specs.Buffer.{Wrote};
 ghost use Rattle.printout.specs.Program.{emitLine, endLine, lineAfter, refusedLine};
 
 // No line is longer.
-pub const LINE_LENGTH: usize = 96;
+pub const LINE_LENGTH: usize = 160;
 
 // The most digits that a number of 64 bits has.
 const DIGITS: u8 = 20;
@@ -48,8 +48,14 @@ pub(crate) fn put_emit_line(line: &mut [u8; LINE_LENGTH], emitted: Emitted) -> u
     let e = put(line, d, b" ");
     let f = put_decimal(line, e, emitted.lookups);
     let g = put(line, f, b" ");
-    let h = put_decimal(line, g, emitted.warning);
-    put(line, h, b"\n")
+    let h = put_decimal(line, g, emitted.op_warnings);
+    let i = put(line, h, b" ");
+    let j = put_decimal(line, i, emitted.selector_warnings);
+    let k = put(line, j, b" ");
+    let l = put_decimal(line, k, emitted.modifier_warnings);
+    let m = put(line, l, b" ");
+    let n = put_decimal(line, m, emitted.alpha_warning as u8);
+    put(line, n, b"\n")
 }
 
 pub(crate) fn put_end_line(line: &mut [u8; LINE_LENGTH], texts: usize) -> usize

@@ -38,7 +38,7 @@ returns c =
 
 returns-2 : tie.Need-returns-2
 returns-2 c =
-    let p = c .before .before .before in
+    let p = c .before .before .before .before .before in
     let u = p .before .before in
     let s = start p in
     let k = s .args .key in
@@ -46,7 +46,7 @@ returns-2 c =
     let e = s .args .entry in
     let w = p .put-text .ensures in
     let stages : length (k .stages) ≡ 8 = sym (length-map (k .stages) _) ∙ s .good .0 .1 .1 .0 .1 .0 .1 in
-    let h : length (text p) ≤ length (out p) = omega (arith, w .0, c .if1 .left) in
+    let h : length (text p) ≤ length (out p) = omega (arith, w .0, c .before .if1 .left) in
     let m = accepted k v e (u .survey .result) _ _ (u .survey .ensures) (w .0) (w .1 .1 .1) in
     let b = w .1 .0 h in
     let a = ap Text m ∙ with-room k v e (length (out p)) (s .pre) h in
