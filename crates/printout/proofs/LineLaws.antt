@@ -7,7 +7,7 @@ use native.Mathlib.Omega.{arith}
 use borrow.Author.Tests.{lt-ltb, le-ltb}
 use lib.Dec.{ltb}
 use lib.ListN.{length, length-append}
-use Rattle.text.specs.Text.{Text, flat, _⊕_, digit, decimalOf}
+use Rattle.text.specs.Text.{Text, bytes, flat, _⊕_, digit, decimal, decimalOf}
 use Rattle.text.specs.Buffer.{Wrote}
 use Rattle.text.proofs.Laws.{whole, pick-true, pick-false, one-digit}
 use Rattle.values.specs.declared.Emitted.{Emitted}
@@ -36,12 +36,25 @@ unfolding decimalOf
 digits-short zero n = omega arith
 digits-short (suc d) n = one-more (ltb n 10) d (48 + n) (48 + n % 10) (flat (decimalOf d (n / 10))) (digits-short d (n / 10))
 
+yes-or-no : (b : Bool) → length (cond b (bytes "1") (bytes "0")) ≡ 1
+yes-or-no true = refl
+yes-or-no false = refl
+
 emit-short : (e : Emitted) → length (emitLine e) ≤ 152
 unfolding emitLine
 emit-short e =
-    let counts = (digits-short 20 (e .mask), digits-short 20 (e .rows), digits-short 20 (e .lookups)) in
-    let warnings = (digits-short 20 (e .«op_warnings»), digits-short 20 (e .«selector_warnings»), digits-short 20 (e .«modifier_warnings»)) in
-    simp length-append (omega (arith, counts .0, counts .1, counts .2, warnings .0, warnings .1, warnings .2, digits-short 20 (cond (e .«alpha_warning») 1 0)))
+    let short : (n : ℕ) → length (flat (decimal n)) ≤ 20 = digits-short 20 in
+    simp length-append
+    (omega (
+      arith,
+      short (e .mask),
+      short (e .rows),
+      short (e .lookups),
+      short (e .«op_warnings»),
+      short (e .«selector_warnings»),
+      short (e .«modifier_warnings»),
+      yes-or-no (e .«alpha_warning»),
+    ))
 
 end-short : (n : ℕ) → length (endLine n) ≤ 152
 unfolding endLine

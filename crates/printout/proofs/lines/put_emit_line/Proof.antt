@@ -7,13 +7,7 @@ use Rattle.printout.proofs.lines.put_emit_line.Tie as tie
 
 returns : tie.Need-returns
 returns c =
-    let s14 = c .before .before .before in
-    let s13 = s14 .before .before in
-    let s12 = s13 .before .before .before in
-    let s11 = s12 .before .before in
-    let s10 = s11 .before .before .before in
-    let s9 = s10 .before .before in
-    let s8 = s9 .before .before .before in
+    let s8 = c .before .before .before in
     let s7 = s8 .before .before in
     let s6 = s7 .before .before .before in
     let s5 = s6 .before .before in
@@ -29,29 +23,14 @@ returns c =
     ⨾ s5 .put3 .ensures .written
     ⨾ s6 .put-decimal3 .ensures
     ⨾ s7 .put4 .ensures .written
-    ⨾ s8 .put-decimal4 .ensures
-    ⨾ s9 .put5 .ensures .written
-    ⨾ s10 .put-decimal5 .ensures
-    ⨾ s11 .put6 .ensures .written
-    ⨾ s12 .put-decimal6 .ensures
-    ⨾ s13 .put7 .ensures .written
-    ⨾ s14 .put-decimal7 .ensures
-    ⨾ c .put8 .ensures .written)
+    ⨾ s8 .put-warnings .ensures
+    ⨾ c .put5 .ensures .written)
     (s1 .before .before .put-arg .given .0 .1)
 
 pub put-emit-line-spec : {M : Type 1} → statement M
 put-emit-line-spec =
     tie.close
     (tie.spec
-    (λ c. search needs)
-    (λ c κs. tt)
-    (λ c κs. tt)
-    (λ c. search needs)
-    (λ c κs. tt)
-    (λ c κs. tt)
-    (λ c. search needs)
-    (λ c κs. tt)
-    (λ c κs. tt)
     (λ c. search needs)
     (λ c κs. tt)
     (λ c κs. tt)
