@@ -26,7 +26,7 @@ chosen true false y = refl
 chosen false x y = refl
 
 -- each of these bytes is right, the first of them number i
-abbrev rightFrom : ℕ → ℕ → List ℕ → Bool
+abbrev pub rightFrom : ℕ → ℕ → List ℕ → Bool
 rightFrom i len [] = true
 rightFrom i len (c ∷ r) = right i len c && rightFrom (suc i) len r
 
@@ -38,10 +38,10 @@ kept-wrong false false w = refl
 
 -- the state behind the bytes of a name and those behind it
 module _ (len : ℕ) where
-  abbrev state : ℕ → ℕ → Pass
+  abbrev pub state : ℕ → ℕ → Pass
   state i w = record { taken = i; length = len; wrong = w }
 
-  step-on : (i w c : ℕ) → 1 ≤ i → i < 255 → passStepped (state i w) c ≡ state (suc i) (cond (right i len c) w 1)
+  pub step-on : (i w c : ℕ) → 1 ≤ i → i < 255 → passStepped (state i w) c ≡ state (suc i) (cond (right i len c) w 1)
   unfolding passStepped
   step-on i w c h k =
       let e : (i + 1) % 256 ≡ suc i = mod-eq-of-lt (omega arith) ∙ add-one i in
@@ -76,7 +76,7 @@ placed n [] = true
 placed zero (c ∷ r) = eqb c 0 && placed zero r
 placed (suc n) (c ∷ r) = continuesName c && placed n r
 
-and-assoc : (a b c : Bool) → (a && (b && c)) ≡ ((a && b) && c)
+pub and-assoc : (a b c : Bool) → (a && (b && c)) ≡ ((a && b) && c)
 and-assoc true b c = refl
 and-assoc false b c = refl
 
@@ -113,7 +113,7 @@ right-placed len i (c ∷ r) h k =
         rw (lt-leb i len b, le-leb i 32 m, e, f)
 
 -- for a whole body the pass answers as 01 does
-bytes-good : (len : ℕ) (l : List ℕ) → length l ≡ 32 → ((leb 1 len && leb len 32) && rightFrom 1 len l) ≡ entryGood (record { len = len; name = l })
+pub bytes-good : (len : ℕ) (l : List ℕ) → length l ≡ 32 → ((leb 1 len && leb len 32) && rightFrom 1 len l) ≡ entryGood (record { len = len; name = l })
 unfolding entryGood right
 bytes-good zero l h = refl
 bytes-good (suc n) [] h = absurd (omega arith)

@@ -21,7 +21,7 @@ pub fn start() -> Pass
     }
 }
 
-// Whether a byte may stand at a place of a body. All places are tested without a branch, so that the 32 bytes of a name are tested together.
+// Whether a byte may stand at a place of a body, told without a branch.
 fn right_at(at: u8, length: u8, c: u8) -> bool
     ensures { λ r. ⌜ r ≡ right at length c ⌝ }
 {
@@ -60,15 +60,23 @@ pub fn possible(pass: Pass) -> bool
     pass.wrong == 0
 }
 
+// Whether a byte was wrong is kept beside the state, so that no step waits for the one before it and the 32 bytes of a name are tested together.
 pub fn entry_good(entry: Entry) -> bool
     ensures { λ r. ⌜ r ≡ entryGood entry ⌝ }
 {
     let name = entry.name;
     let mut pass = step(start(), entry.len);
+    let mut good = possible(pass);
     let mut i = 0;
-    while i < 32 {
-        pass = step(pass, name[i]);
+    while i < NAME_BYTES as usize {
+        let cleared = Pass {
+            taken: pass.taken,
+            length: pass.length,
+            wrong: 0,
+        };
+        pass = step(cleared, name[i]);
+        good = good & possible(pass);
         i += 1;
     }
-    possible(pass)
+    good
 }
