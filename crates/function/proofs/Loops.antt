@@ -28,7 +28,7 @@ use Rattle.shader.specs.Whole.{stageLine, stagesText}
 use Rattle.values.specs.declared.Variant.{Variant}
 use Rattle.shader.specs.declared.Before.{Before}
 use Rattle.shader.specs.declared.Before.the-variants.{Ordinary}
-use Rattle.lookups.proofs.Laws.{precedes}
+use Rattle.bumps.proofs.Laws.{precedes}
 
 -- the lowest of the marks, and the others
 mark-first : (alive : Bool) (s : Stage) (r : List Stage) → eqb (marksOf alive (s ∷ r) % 2) 1 ≡ marked alive (s ∷ r)

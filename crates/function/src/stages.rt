@@ -1,5 +1,6 @@
 //! The lookups and lines of the active stages.
 use crate::Place;
+use bumps::put_sample;
 use cascade::Decoded;
 use cascade::Expressions;
 use cascade::Survey;
@@ -10,7 +11,6 @@ use cascade::keys::to_temp;
 use cascade::reading::is_lined;
 use cascade::reading::is_luminance;
 use expressions::line::put_line;
-use lookups::bump::put_sample;
 use shader::Before;
 use values::Key;
 use values::Stage;

@@ -8,7 +8,7 @@ ghost use Rattle.text.specs.Text.{lit, pick, _⊕_};
 ghost use Rattle.text.specs.Buffer.{Wrote};
 ghost use Rattle.shader.specs.Lookups.{coordinateText, quotientText, uvText};
 
-pub(crate) fn put_coordinate(out: &mut [u8], at: usize, i: u8, c: Coordinate) -> usize
+pub fn put_coordinate(out: &mut [u8], at: usize, i: u8, c: Coordinate) -> usize
     requires { ⌜ i < 8 ⌝ }
     ensures { λ r. ⌜ Wrote (now (out .entry)) at (now (out .exit)) r (coordinateText i c) ⌝ }
 {

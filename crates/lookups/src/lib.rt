@@ -1,5 +1,4 @@
-//! The writers of lookups: their coordinates, their lines, and the bump stages before them.
-pub mod bump;
-mod coordinates;
-mod lookup;
+//! The writers of lookups: their coordinates and their lines.
+pub mod coordinates;
+pub mod lookup;
 mod samples;

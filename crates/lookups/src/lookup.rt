@@ -30,7 +30,7 @@ fn put_comparison_lines(
 }
 
 // The lookup of stage i at a coordinate.
-pub(crate) fn put_lookup(
+pub fn put_lookup(
     out: &mut [u8],
     at: usize,
     f: Lookup,

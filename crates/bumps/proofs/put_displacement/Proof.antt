@@ -2,8 +2,8 @@
 use Rattle.text.proofs.Laws.{texts}
 use borrow.Author.Needs.{needs}
 use Rattle.shader.specs.Lookups.{displacementText}
-use Rattle.lookups.proofs.bump.put_displacement.Statement.{statement}
-use Rattle.lookups.proofs.bump.put_displacement.Tie as tie
+use Rattle.bumps.proofs.put_displacement.Statement.{statement}
+use Rattle.bumps.proofs.put_displacement.Tie as tie
 
 pub put-displacement-spec : {M : Type 1} → statement M
 unfolding displacementText

@@ -1,9 +1,9 @@
 -- The literal is the line of `dividedLine`.
 use borrow.Author.Needs.{needs}
 use Rattle.text.proofs.Laws.{same}
-use Rattle.lookups.proofs.Lines.{divided}
-use Rattle.lookups.proofs.bump.put_divided_line.Statement.{statement}
-use Rattle.lookups.proofs.bump.put_divided_line.Tie as tie
+use Rattle.bumps.proofs.Lines.{divided}
+use Rattle.bumps.proofs.put_divided_line.Statement.{statement}
+use Rattle.bumps.proofs.put_divided_line.Tie as tie
 
 returns : tie.Need-returns
 returns c =

@@ -1,9 +1,9 @@
 -- The name, the coordinate moved, and its other two components.
 use borrow.Author.Needs.{needs}
 use Rattle.text.proofs.Laws.{_⨾_, same}
-use Rattle.lookups.proofs.Lines.{displaces}
-use Rattle.lookups.proofs.bump.put_displaced_line.Statement.{statement}
-use Rattle.lookups.proofs.bump.put_displaced_line.Tie as tie
+use Rattle.bumps.proofs.Lines.{displaces}
+use Rattle.bumps.proofs.put_displaced_line.Statement.{statement}
+use Rattle.bumps.proofs.put_displaced_line.Tie as tie
 
 returns : tie.Need-returns
 returns c =

@@ -1,9 +1,9 @@
 -- The texel's name, the scaled luminance, the row and the line's end.
 use borrow.Author.Needs.{needs}
 use Rattle.text.proofs.Laws.{_⨾_, same}
-use Rattle.lookups.proofs.Lines.{lights}
-use Rattle.lookups.proofs.bump.put_luminance_line.Statement.{statement}
-use Rattle.lookups.proofs.bump.put_luminance_line.Tie as tie
+use Rattle.bumps.proofs.Lines.{lights}
+use Rattle.bumps.proofs.put_luminance_line.Statement.{statement}
+use Rattle.bumps.proofs.put_luminance_line.Tie as tie
 
 returns : tie.Need-returns
 returns c =

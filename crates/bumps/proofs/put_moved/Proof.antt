@@ -2,9 +2,9 @@
 use borrow.Author.Needs.{needs}
 use Rattle.text.proofs.Laws.{_⨾_, same}
 use Rattle.shader.specs.Lookups.{coordinateText}
-use Rattle.lookups.proofs.Lines.{moves}
-use Rattle.lookups.proofs.bump.put_moved.Statement.{statement}
-use Rattle.lookups.proofs.bump.put_moved.Tie as tie
+use Rattle.bumps.proofs.Lines.{moves}
+use Rattle.bumps.proofs.put_moved.Statement.{statement}
+use Rattle.bumps.proofs.put_moved.Tie as tie
 
 returns : tie.Need-returns
 returns c =

@@ -1,8 +1,8 @@
 -- The line is there behind a luminance stage.
 use Rattle.text.proofs.Laws.{texts}
 use borrow.Author.Needs.{needs}
-use Rattle.lookups.proofs.bump.put_luminance.Statement.{statement}
-use Rattle.lookups.proofs.bump.put_luminance.Tie as tie
+use Rattle.bumps.proofs.put_luminance.Statement.{statement}
+use Rattle.bumps.proofs.put_luminance.Tie as tie
 
 pub put-luminance-spec : {M : Type 1} → statement M
 put-luminance-spec =

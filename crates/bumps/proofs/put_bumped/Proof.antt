@@ -1,8 +1,8 @@
 -- Behind a textured bump stage the lookup reads the displaced coordinate; else its own.
 use Rattle.text.proofs.Laws.{texts}
 use borrow.Author.Needs.{needs}
-use Rattle.lookups.proofs.bump.put_bumped.Statement.{statement}
-use Rattle.lookups.proofs.bump.put_bumped.Tie as tie
+use Rattle.bumps.proofs.put_bumped.Statement.{statement}
+use Rattle.bumps.proofs.put_bumped.Tie as tie
 
 pub put-bumped-spec : {M : Type 1} → statement M
 put-bumped-spec =

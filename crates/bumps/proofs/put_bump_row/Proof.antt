@@ -2,8 +2,8 @@
 use Rattle.text.proofs.Laws.{texts}
 use borrow.Author.Needs.{needs}
 use Rattle.shader.specs.Lookups.{bumpRow}
-use Rattle.lookups.proofs.bump.put_bump_row.Statement.{statement}
-use Rattle.lookups.proofs.bump.put_bump_row.Tie as tie
+use Rattle.bumps.proofs.put_bump_row.Statement.{statement}
+use Rattle.bumps.proofs.put_bump_row.Tie as tie
 
 pub put-bump-row-spec : {M : Type 1} → statement M
 unfolding bumpRow

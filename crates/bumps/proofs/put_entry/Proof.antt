@@ -1,8 +1,8 @@
 -- The row, and the numbered text behind it.
 use borrow.Author.Needs.{needs}
 use Rattle.text.proofs.Laws.{texts}
-use Rattle.lookups.proofs.bump.put_entry.Statement.{statement}
-use Rattle.lookups.proofs.bump.put_entry.Tie as tie
+use Rattle.bumps.proofs.put_entry.Statement.{statement}
+use Rattle.bumps.proofs.put_entry.Tie as tie
 
 pub put-entry-spec : {M : Type 1} → statement M
 put-entry-spec =

@@ -1,6 +1,6 @@
 //! Bump stages: the coordinate that one displaces, the texel that one scales, and all that a lookup behind one writes.
-use crate::coordinates::put_coordinate;
-use crate::lookup::put_lookup;
+use lookups::coordinates::put_coordinate;
+use lookups::lookup::put_lookup;
 use shader::Before;
 use shader::Coordinate;
 use shader::Lookup;

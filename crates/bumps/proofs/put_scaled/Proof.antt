@@ -3,9 +3,9 @@ use Prim.Native.Nat.{_+_, _*_}
 use borrow.Author.Needs.{needs}
 use Rattle.text.proofs.Laws.{_⨾_, same, pick-true, pick-false, nothing}
 use Rattle.shader.specs.Lookups.{bumpRow}
-use Rattle.lookups.proofs.Lines.{scales}
-use Rattle.lookups.proofs.bump.put_scaled.Statement.{statement}
-use Rattle.lookups.proofs.bump.put_scaled.Tie as tie
+use Rattle.bumps.proofs.Lines.{scales}
+use Rattle.bumps.proofs.put_scaled.Statement.{statement}
+use Rattle.bumps.proofs.put_scaled.Tie as tie
 
 returns : tie.Need-returns
 returns c =

@@ -2,8 +2,8 @@
 use Rattle.text.proofs.Laws.{_⨾_}
 use borrow.Author.Needs.{needs}
 use Rattle.shader.specs.Lookups.{sampleText}
-use Rattle.lookups.proofs.bump.put_sample.Statement.{statement}
-use Rattle.lookups.proofs.bump.put_sample.Tie as tie
+use Rattle.bumps.proofs.put_sample.Statement.{statement}
+use Rattle.bumps.proofs.put_sample.Tie as tie
 
 put-bumped-requires : tie.Need-put-bumped-requires
 put-bumped-requires c κs =
