@@ -192,15 +192,3 @@ flags! {
     /// Table fog goes by the eye's W in place of the depth.
     FOG_SOURCE_W = 32;
 }
-
-/// What the warning of an [`Emission`](crate::Emission) is the sum of.
-pub mod warning {
-    /// A stage has an op without a formula. Its argument 1 was used.
-    pub const OP: u64 = 1;
-    /// An argument has a selector from 7 to 15. White was used.
-    pub const SELECTOR: u64 = 2;
-    /// An argument has the bit 0x40 or 0x80. It was ignored.
-    pub const MODIFIER: u64 = 4;
-    /// The alpha function is above 8. Every pixel is kept.
-    pub const ALPHA_FUNCTION: u64 = 8;
-}
