@@ -112,7 +112,7 @@ typedef struct {
 typedef struct {
     yuzuknoll_stage stages[8];
     uint8_t specular;  /* 1 adds the specular colour behind the last stage, 0 does not. */
-    uint8_t projected; /* Bit i divides the texture coordinate of stage i by its last component. */
+    uint8_t projected; /* Bit i divides the texture coordinate of stage i by its w, and makes it 0 where w is 0. */
 } yuzuknoll_key;
 
 /* ---- Variants ---- */
@@ -128,7 +128,8 @@ typedef struct {
 #define YUZUKNOLL_CMP_GREATEREQUAL 7
 #define YUZUKNOLL_CMP_ALWAYS 8
 
-/* Fog modes, with Direct3D's numbers (D3DFOG_...). Numbers above 3 mean YUZUKNOLL_FOG_LINEAR. */
+/* Fog modes, with Direct3D's numbers (D3DFOG_...). As fog_table_mode, numbers above 3 mean YUZUKNOLL_FOG_LINEAR. As
+ * fog_mode, all numbers but 0 mean the same, since the factor of the vertices is computed elsewhere. */
 #define YUZUKNOLL_FOG_NONE 0
 #define YUZUKNOLL_FOG_EXP 1
 #define YUZUKNOLL_FOG_EXP2 2

@@ -99,7 +99,10 @@ impl Comparison {
     pub const ALWAYS: Self = Self(8);
 }
 
-/// How fog grows with the distance, by Direct3D's number (`D3DFOG_..`). A number above 3 means [`FogMode::LINEAR`].
+/// How fog grows with the distance, by Direct3D's number (`D3DFOG_..`).
+///
+/// As `fog_table_mode` of a [`Variant`](crate::Variant), a number above 3 means [`FogMode::LINEAR`]. As `fog_mode`, all numbers but 0 mean the same, since
+/// the factor of the vertices is computed elsewhere.
 #[derive(Clone, Copy, Debug, Default, PartialEq, Eq, Hash)]
 #[repr(transparent)]
 pub struct FogMode(pub u8);
