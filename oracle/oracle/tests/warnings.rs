@@ -55,6 +55,30 @@ fn both_roles(combiner: Combiner, flags: u8) -> [Stage; 2] {
     [color, alpha]
 }
 
+/// The cases W1 to W6 of crates/shader/specs/Worked.
+#[test]
+fn worked_cases() {
+    let stage = |op, arg1, arg2, flags| Stage {
+        color: Combiner::new(op, arg1, arg2),
+        alpha: Combiner::new(1, 0, 0),
+        flags,
+    };
+    let plain = stage(2, 0, 0, 0);
+    let cases = [
+        (vec![plain, stage(17, 0, 0, 0)], 0, [2, 0, 0, 0]),
+        (vec![stage(2, 0, 0x4f, 0)], 0, [0, 1, 1, 0]),
+        (vec![plain, stage(17, 0x47, 0, TO_TEMP)], 0, [2, 2, 2, 0]),
+        (vec![stage(17, 2, 0x4f, 0)], 0, [0, 0, 0, 0]),
+        (vec![stage(22, 0x4f, 0x4f, TEXTURED)], 0, [0, 0, 0, 0]),
+        (vec![], 9, [0, 0, 0, 1]),
+    ];
+    for (stages, alpha_func, expected) in cases {
+        let mut triple = Triple::plain(Key::of(&stages));
+        triple.variant.alpha_func = alpha_func;
+        assert_eq!(emit(&triple).warnings.numbers(), expected, "{stages:?}");
+    }
+}
+
 #[test]
 fn causes_name_their_stage() {
     let causes = [
