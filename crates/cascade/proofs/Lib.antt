@@ -1,4 +1,5 @@
 pub mod Active
 mod Guards
 mod PlainStages
+pub mod Reports
 mod Walking

@@ -8,7 +8,7 @@ use lib.Dec.{eqb, leb, ltb}
 use Rattle.combiners.specs.Codes.{selector, constant, temp}
 use Rattle.cascade.specs.Keys.{reads, readsConstant, blendsByFactor, namesFactor}
 use Rattle.cascade.specs.Reading.{keeps, readsTemp}
-use Rattle.cascade.specs.Warnings.{warns}
+use Rattle.cascade.specs.Walks.{warns}
 use Rattle.cascade.specs.Plain.{PlainArgument, PlainCombiner, PlainStage}
 use Rattle.values.specs.declared.Combiner.{Combiner}
 use Rattle.values.specs.declared.Stage.{Stage}

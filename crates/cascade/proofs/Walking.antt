@@ -9,15 +9,17 @@ use native.Mathlib.Numerals.{add-one}
 use lib.Dec.{eqb}
 use lib.ListN.{length, drop, getD, length-drop}
 use lib.Seq.{length-take-le}
-use Rattle.cascade.specs.Keys.{textured, active, activeCount, bump, maskOf, lastConstant, anyFactor, rowsOf}
+use Rattle.combiners.specs.Warnings.{Cause, opCause, selectorCause, modifierCause}
+use Rattle.cascade.specs.Keys.{textured, active, activeCount, bump, stagesWhere, lastConstant, anyFactor, rowsOf}
 use Rattle.cascade.specs.Reading.{live, lined, marked, readsTexel, readsBumpEnv}
-use Rattle.cascade.specs.Warnings.{anyWarns, stageWarnings}
+use Rattle.cascade.specs.Warnings.{warnedStages}
 use Rattle.cascade.specs.Survey.{marksOf, surveyOf}
-use Rattle.cascade.specs.Walks.{factsOf, addFact, markedBy, marksFrom, addMark}
+use Rattle.cascade.specs.Walks.{warns, factsOf, SevenStages, addFact, markedBy, marksFrom, addMark}
 use Rattle.values.specs.declared.Stage.{Stage}
 use Rattle.cascade.specs.declared.walks.Facts.{Facts}
 use Rattle.cascade.specs.declared.walks.Marks.{Marks}
 use Rattle.cascade.proofs.Active.{active-take, count-le, here, past}
+use Rattle.cascade.proofs.Reports.{warned}
 
 -- a walk over the n active stages of eight has come down to stage i
 pub record Walk (l : List Stage) (n i : ℕ) : Type 0 where
@@ -43,7 +45,7 @@ more P add cons l n i d x y w p e k =
     k ∙ rw (rw s at e, here l j d q, add-one) (cons j (getD l j d) (drop (suc j) (active l)))
 
 facts-cons : (i : ℕ) (s : Stage) (r : List Stage) → addFact i s (factsOf (suc i) r) ≡ factsOf i (s ∷ r)
-unfolding factsOf maskOf lastConstant anyFactor live anyWarns
+unfolding factsOf stagesWhere lastConstant anyFactor live
 facts-cons i s r = refl
 
 choice : (b x y : Bool) → cond b x y ≡ (b && x) || (not b && y)
@@ -69,8 +71,8 @@ module _ (l : List Stage) (n i : ℕ) (d : Stage) (w : Walk l n i) (p : 0 < i) w
 
 -- none behind the last
 pub facts-none : (l : List Stage) (n : ℕ) → n ≡ activeCount l
-    → record { mask = 0; constant = 0; factor = false; live = false; op = false; selector = false; modifier = false } ≡ factsOf n (drop n (active l))
-unfolding factsOf maskOf lastConstant anyFactor live anyWarns
+    → record { mask = 0; constant = 0; factor = false; live = false; op = 0; selector = 0; modifier = 0 } ≡ factsOf n (drop n (active l))
+unfolding factsOf stagesWhere lastConstant anyFactor live
 facts-none l n h = rw (past l n (omega arith))
 
 pub marks-none : (alive : Bool) (l : List Stage) (n : ℕ) → n ≡ activeCount l
@@ -83,10 +85,10 @@ bit-small : (b : Bool) (m n : ℕ) → m < 2 ^ n → cond b 1 0 + 2 * m < 2 ^ su
 bit-small true m n h = rw (pow-succ' 2 n) (omega arith)
 bit-small false m n h = rw (pow-succ' 2 n) (omega arith)
 
-mask-small : (ss : List Stage) → maskOf ss < 2 ^ length ss
-unfolding maskOf
-mask-small [] = omega arith
-mask-small (s ∷ r) = bit-small (textured s) (maskOf r) (length r) (mask-small r)
+mask-small : (f : Stage → Bool) (ss : List Stage) → stagesWhere f ss < 2 ^ length ss
+unfolding stagesWhere
+mask-small f [] = omega arith
+mask-small f (s ∷ r) = bit-small (f s) (stagesWhere f r) (length r) (mask-small f r)
 
 marks-small : (alive : Bool) (ss : List Stage) → marksOf alive ss < 2 ^ length ss
 unfolding marksOf
@@ -101,18 +103,36 @@ seven l n i m w p h = let q : 2 ^ length (drop i (active l)) ≤ 2 ^ 7 = pow-le-
     behind = rw (active-take l) (simp length-drop (rw (length-take-le (activeCount l) l (count-le l)) (omega (arith, count-le l, w .eight))))
 
 module _ (l : List Stage) (n i : ℕ) (w : Walk l n i) (p : 0 < i) where
-  pub facts-small : (f : Facts) → f ≡ factsOf i (drop i (active l)) → f .mask < 128
+  few-where : (f : Stage → Bool) → stagesWhere f (drop i (active l)) < 128
+  few-where f = seven l n i _ w p (mask-small f (drop i (active l)))
+
+  pub facts-small : (f : Facts) → f ≡ factsOf i (drop i (active l)) → SevenStages f
   unfolding factsOf
-  facts-small f e = rw e (seven l n i _ w p (mask-small (drop i (active l))))
+  facts-small f e =
+      rw e
+      (record { mask = few-where textured; op = few-where (warns opCause); selector = few-where (warns selectorCause); modifier = few-where (warns modifierCause) })
 
   pub few-marks : (alive : Bool) (m : Marks) → m ≡ marksFrom alive (drop i (active l)) → m .marks < 128
   unfolding marksFrom
   few-marks alive m e = rw e (seven l n i _ w p (marks-small alive (drop i (active l))))
 
 -- everything together
-pub surveyed : (l : List Stage) (n : ℕ) (f : Facts) (m : Marks) (r x y z : ℕ) → n ≡ activeCount l → f ≡ factsOf 0 (active l)
+pub surveyed : (l : List Stage) (n : ℕ) (f : Facts) (m : Marks) (r : ℕ) → length l ≡ 8 → n ≡ activeCount l → f ≡ factsOf 0 (active l)
     → m ≡ marksFrom (f .live) (active l) → r ≡ cond (eqb (f .constant) 0) (cond (f .factor) 1 0) (f .constant)
-    → x ≡ cond (f .op) 1 0 → y ≡ cond (f .selector) 2 0 → z ≡ cond (f .modifier) 4 0
-    → record { count = n; mask = f .mask; rows = r; warning = x + y + z; live = f .live; marks = m .marks; «bump_env» = m .«bump_env» } ≡ surveyOf l
-unfolding factsOf marksFrom surveyOf rowsOf stageWarnings
-surveyed l n f m r x y z hn hf hm hr hx hy hz = rw (hr, hx, hy, hz, hm, hn, hf)
+    → record {
+      count = n;
+      mask = f .mask;
+      rows = r;
+      «op_warnings» = f .op;
+      «selector_warnings» = f .selector;
+      «modifier_warnings» = f .modifier;
+      live = f .live;
+      marks = m .marks;
+      «bump_env» = m .«bump_env»;
+    }
+    ≡ surveyOf l
+unfolding factsOf marksFrom surveyOf rowsOf
+surveyed l n f m r e hn hf hm hr =
+    let few : length (active l) ≤ 8 = rw (active-take l, length-take-le (activeCount l) l (count-le l)) (omega (arith, count-le l, e)) in
+    let w : (c : Cause) → warnedStages c (active l) ≡ stagesWhere (warns c) (active l) = λ c. warned c (active l) few in
+    rw (hr, hm, hn, hf, w opCause, w selectorCause, w modifierCause)

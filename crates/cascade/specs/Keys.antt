@@ -58,10 +58,14 @@ bump s = isBumpOp (s .colour .op) && not (fallsBack (textured s) (s .colour))
 unfoldable pub alphaFromColour : Stage → Bool
 alphaFromColour s = eqb (s .colour .op) dotProduct3 && not (fallsBack (textured s) (s .colour))
 
--- 01: "Mask: active stages with a texture", the first stage's bit the lowest
-unfoldable pub maskOf : List Stage → ℕ
-maskOf [] = 0
-maskOf (s ∷ r) = cond (textured s) 1 0 + 2 * maskOf r
+-- the stages of which f holds as a mask, the first stage's bit the lowest
+unfoldable pub stagesWhere : (Stage → Bool) → List Stage → ℕ
+stagesWhere f [] = 0
+stagesWhere f (s ∷ r) = cond (f s) 1 0 + 2 * stagesWhere f r
+
+-- 01: "Mask: active stages with a texture"
+abbrev pub maskOf : List Stage → ℕ
+maskOf ss = stagesWhere textured ss
 
 -- 01: "reads selector 6 outside a fallback and, in alpha, not from colour"
 unfoldable pub readsConstant : Stage → Bool

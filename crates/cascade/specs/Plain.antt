@@ -3,9 +3,10 @@ use Prim.Native.Nat.{ℕ}
 use mathlib.Core.Bool.{false}
 use mathlib.Core.Path.{_≡_}
 use Rattle.combiners.specs.Codes as codes
-use Rattle.cascade.specs.Keys.{selects, either, readsConstant, blendsByFactor, namesFactor}
+use Rattle.cascade.specs.Keys.{selects, readsConstant, blendsByFactor, namesFactor}
 use Rattle.cascade.specs.Reading.{readsTemp}
-use Rattle.cascade.specs.Warnings.{unknownSelector, unknownModifier, warns}
+use Rattle.combiners.specs.Warnings.{selectorCause, modifierCause, unknownSelector, unknownModifier}
+use Rattle.cascade.specs.Walks.{warns}
 use Rattle.values.specs.declared.Combiner.{Combiner}
 use Rattle.values.specs.declared.Stage.{Stage}
 
@@ -24,5 +25,5 @@ pub record PlainStage (s : Stage) : Type 0 where
   pub factor : namesFactor s ≡ blendsByFactor s
   pub temp : readsTemp s ≡ false
   pub constant : readsConstant s ≡ false
-  pub selector : warns (either unknownSelector) s ≡ false
-  pub modifier : warns (either unknownModifier) s ≡ false
+  pub selector : warns selectorCause s ≡ false
+  pub modifier : warns modifierCause s ≡ false

@@ -2,9 +2,10 @@
 use Prim.Native.Nat.{ℕ, _+_, _*_}
 use mathlib.Core.Bool.{Bool, cond}
 use mathlib.Core.List.{List, [], _∷_}
+use Rattle.combiners.specs.Warnings.{opCause, selectorCause, modifierCause}
 use Rattle.cascade.specs.Keys.{active, activeCount, maskOf, rowsOf}
 use Rattle.cascade.specs.Reading.{live, marked, readsBumpEnv}
-use Rattle.cascade.specs.Warnings.{stageWarnings}
+use Rattle.cascade.specs.Warnings.{warnedStages}
 use Rattle.values.specs.declared.Stage.{Stage}
 use Rattle.cascade.specs.declared.Survey.{Survey}
 
@@ -19,7 +20,9 @@ surveyOf stages =
       count = activeCount stages;
       mask = maskOf (active stages);
       rows = rowsOf (active stages);
-      warning = stageWarnings (active stages);
+      «op_warnings» = warnedStages opCause (active stages);
+      «selector_warnings» = warnedStages selectorCause (active stages);
+      «modifier_warnings» = warnedStages modifierCause (active stages);
       live = live (active stages);
       marks = marksOf (live (active stages)) (active stages);
       «bump_env» = readsBumpEnv (live (active stages)) (active stages);

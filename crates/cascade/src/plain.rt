@@ -1,6 +1,6 @@
 //! Plain stages: most name neither a constant, nor the factor, nor TEMP, and no selector or modifier that warns.
-use crate::warnings::UNKNOWN_MODIFIERS;
 use combiners::codes::*;
+use combiners::warnings::UNKNOWN_MODIFIERS;
 use values::Combiner;
 use values::Stage;
 ghost use mathlib.Core.Path.{_≡_};

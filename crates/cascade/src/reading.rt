@@ -6,20 +6,12 @@ use crate::keys::selects;
 use crate::keys::textured;
 use crate::keys::to_temp;
 use combiners::codes::*;
+use combiners::ops::has_text;
 use values::Combiner;
 use values::Stage;
 ghost use mathlib.Core.Path.{_≡_};
-ghost use Rattle.combiners.specs.Combiners.{hasText, keepsFirst, keepsSecond, readsOwnTexel};
+ghost use Rattle.combiners.specs.Combiners.{keepsFirst, keepsSecond, readsOwnTexel};
 ghost use Rattle.cascade.specs.Reading.{keeps, readsTempBy, readsTexelBy, alphaWritten, readsTemp, readsTexel, lined, luminance};
-
-pub(crate) fn has_text(op: u8) -> bool
-    ensures { λ r. ⌜ r ≡ hasText op ⌝ }
-{
-    // PREMODULATE stands between the two runs.
-    let before = (D3DTOP_SELECTARG1 <= op) & (op <= D3DTOP_BLENDCURRENTALPHA);
-    let behind = (D3DTOP_MODULATEALPHA_ADDCOLOR <= op) & (op <= D3DTOP_MODULATEINVCOLOR_ADDALPHA);
-    before | (behind | (op == D3DTOP_DOTPRODUCT3))
-}
 
 fn keeps_first(textured: bool, op: u8) -> bool
     ensures { λ r. ⌜ r ≡ keepsFirst textured op ⌝ }

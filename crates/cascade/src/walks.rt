@@ -11,31 +11,28 @@ use crate::reading::is_lined;
 use crate::reading::is_luminance;
 use crate::reading::reads_temp;
 use crate::reading::reads_texel;
-use crate::warnings::WARNING_MODIFIER;
-use crate::warnings::WARNING_OP;
-use crate::warnings::WARNING_SELECTOR;
 use crate::warnings::warns_modifier;
 use crate::warnings::warns_op;
 use crate::warnings::warns_selector;
 use values::Key;
 use values::Stage;
-ghost use Prim.Native.Nat.{_<_, _≤_, _+_};
+ghost use Prim.Native.Nat.{_<_, _≤_, _+_, _*_};
 ghost use mathlib.Core.Path.{_≡_};
 ghost use mathlib.Core.Bool.{cond};
 ghost use lib.Dec.{eqb};
 ghost use Rattle.cascade.specs.Keys.{active, activeCount, readsConstant};
 ghost use Rattle.cascade.specs.Survey.{surveyOf};
-ghost use Rattle.cascade.specs.Walks.{factsOf, addFact, marksFrom, addMark};
+ghost use Rattle.cascade.specs.Walks.{SevenStages, factsOf, addFact, marksFrom, addMark};
 
-// What the stages say each by itself: the mask, the last constant row, whether the factor is named and TEMP read, and causes of warnings.
+// What the stages say each by itself: the mask, the last constant row, whether the factor is named and TEMP read, and the stages that warn.
 struct Facts {
     mask: u8,
     constant: u8,
     factor: bool,
     live: bool,
-    op: bool,
-    selector: bool,
-    modifier: bool,
+    op: u8,
+    selector: u8,
+    modifier: u8,
 }
 
 // What they say once it is known whether TEMP is live: whether the first is marked, all marks, and whether `bump_env` is read.
@@ -55,6 +52,14 @@ fn when(b: bool, n: u8) -> u8
     0
 }
 
+// The mask of the stages behind one, with that one's bit in front of theirs.
+fn in_front(here: bool, behind: u8) -> u8
+    requires { ⌜ behind < 128 ⌝ }
+    ensures { λ r. ⌜ r ≡ cond here 1 0 + 2 * behind ⌝ }
+{
+    when(here, 1) + 2 * behind
+}
+
 // The rows up to the last constant, of a later stage or of this one: row 0 is the factor's, row i + 1 the constant of stage i.
 fn last_constant(later: u8, s: Stage, i: u8) -> u8
     requires { ⌜ i < 8 ⌝ }
@@ -70,28 +75,28 @@ fn last_constant(later: u8, s: Stage, i: u8) -> u8
 }
 
 fn add_fact(f: Facts, s: Stage, i: u8) -> Facts
-    requires { ⌜ (i < 8) × (f .mask < 128) ⌝ }
+    requires { ⌜ (i < 8) × SevenStages f ⌝ }
     ensures { λ r. ⌜ r ≡ addFact i s f ⌝ }
 {
     if is_plain(s) {
         return Facts {
-            mask: when(textured(s), 1) + 2 * f.mask,
+            mask: in_front(textured(s), f.mask),
             constant: f.constant,
             factor: blends_by_factor(s) | f.factor,
             live: f.live,
-            op: warns_op(s) | f.op,
-            selector: f.selector,
-            modifier: f.modifier,
+            op: in_front(warns_op(s), f.op),
+            selector: in_front(false, f.selector),
+            modifier: in_front(false, f.modifier),
         };
     }
     Facts {
-        mask: when(textured(s), 1) + 2 * f.mask,
+        mask: in_front(textured(s), f.mask),
         constant: last_constant(f.constant, s, i),
         factor: names_factor(s) | f.factor,
         live: (!is_bump(s) & reads_temp(s)) | f.live,
-        op: warns_op(s) | f.op,
-        selector: warns_selector(s) | f.selector,
-        modifier: warns_modifier(s) | f.modifier,
+        op: in_front(warns_op(s), f.op),
+        selector: in_front(warns_selector(s), f.selector),
+        modifier: in_front(warns_modifier(s), f.modifier),
     }
 }
 
@@ -104,9 +109,9 @@ fn facts_of(k: Key, n: usize) -> Facts
         constant: 0,
         factor: false,
         live: false,
-        op: false,
-        selector: false,
-        modifier: false,
+        op: 0,
+        selector: 0,
+        modifier: 0,
     };
     let mut i = n;
     while 0 < i {
@@ -127,7 +132,7 @@ fn add_mark(m: Marks, s: Stage, alive: bool) -> Marks
     let env = (bump & (m.next & (t | is_luminance(s)))) | m.bump_env;
     Marks {
         next: here,
-        marks: when(here, 1) + 2 * m.marks,
+        marks: in_front(here, m.marks),
         bump_env: env,
     }
 }
@@ -169,9 +174,9 @@ pub fn survey(k: Key) -> Survey
         count: n,
         mask: f.mask,
         rows: rows(f),
-        warning: when(f.op, WARNING_OP)
-            + when(f.selector, WARNING_SELECTOR)
-            + when(f.modifier, WARNING_MODIFIER),
+        op_warnings: f.op,
+        selector_warnings: f.selector,
+        modifier_warnings: f.modifier,
         live: f.live,
         marks: m.marks,
         bump_env: m.bump_env,

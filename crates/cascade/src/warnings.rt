@@ -5,41 +5,27 @@ use crate::keys::falls_back;
 use crate::keys::is_bump;
 use crate::keys::textured;
 use crate::reading::alpha_written;
-use crate::reading::has_text;
-use combiners::codes::*;
+use combiners::warnings::unknown_modifier;
+use combiners::warnings::unknown_selector;
+use combiners::warnings::without_text;
 use values::Combiner;
 use values::Stage;
 ghost use mathlib.Core.Path.{_≡_};
 ghost use mathlib.Core.Bool.{_&&_, _||_};
-ghost use Rattle.cascade.specs.Keys.{either};
-ghost use Rattle.cascade.specs.Warnings.{withoutText, unknownSelector, unknownModifier, appliesColour, appliesAlpha, warns};
+ghost use Rattle.combiners.specs.Warnings.{opCause, selectorCause, modifierCause};
+ghost use Rattle.cascade.specs.Warnings.{appliesColour, appliesAlpha};
+ghost use Rattle.cascade.specs.Walks.{gives, warns};
 
-// An argument from here on has a modifier bit above D3DTA_ALPHAREPLICATE, which means nothing.
-pub(crate) const UNKNOWN_MODIFIERS: u8 = 0x40;
-
-// The numbers of the three causes.
-pub(crate) const WARNING_OP: u8 = 1;
-
-pub(crate) const WARNING_SELECTOR: u8 = 2;
-
-pub(crate) const WARNING_MODIFIER: u8 = 4;
-
-fn without_text(c: Combiner) -> bool
-    ensures { λ r. ⌜ r ≡ withoutText c ⌝ }
+fn selector_cause(c: Combiner) -> bool
+    ensures { λ r. ⌜ r ≡ gives selectorCause c ⌝ }
 {
-    !has_text(c.op)
+    unknown_selector(c.arg1) | unknown_selector(c.arg2)
 }
 
-fn unknown_selector(c: Combiner) -> bool
-    ensures { λ r. ⌜ r ≡ either unknownSelector c ⌝ }
+fn modifier_cause(c: Combiner) -> bool
+    ensures { λ r. ⌜ r ≡ gives modifierCause c ⌝ }
 {
-    (D3DTA_CONSTANT < c.arg1 % SELECTORS) | (D3DTA_CONSTANT < c.arg2 % SELECTORS)
-}
-
-fn unknown_modifier(c: Combiner) -> bool
-    ensures { λ r. ⌜ r ≡ either unknownModifier c ⌝ }
-{
-    (UNKNOWN_MODIFIERS <= c.arg1) | (UNKNOWN_MODIFIERS <= c.arg2)
+    unknown_modifier(c.arg1) | unknown_modifier(c.arg2)
 }
 
 fn applies_colour(s: Stage) -> bool
@@ -64,10 +50,12 @@ fn counts(s: Stage, colour: bool, alpha: bool) -> bool
 }
 
 pub(crate) fn warns_op(s: Stage) -> bool
-    ensures { λ r. ⌜ r ≡ warns withoutText s ⌝ }
+    ensures { λ r. ⌜ r ≡ warns opCause s ⌝ }
 {
-    let colour = without_text(s.colour);
-    let alpha = without_text(s.alpha);
+    let c = s.colour;
+    let a = s.alpha;
+    let colour = without_text(c.op);
+    let alpha = without_text(a.op);
     if !(colour | alpha) {
         return false;
     }
@@ -75,10 +63,10 @@ pub(crate) fn warns_op(s: Stage) -> bool
 }
 
 pub(crate) fn warns_selector(s: Stage) -> bool
-    ensures { λ r. ⌜ r ≡ warns (either unknownSelector) s ⌝ }
+    ensures { λ r. ⌜ r ≡ warns selectorCause s ⌝ }
 {
-    let colour = unknown_selector(s.colour);
-    let alpha = unknown_selector(s.alpha);
+    let colour = selector_cause(s.colour);
+    let alpha = selector_cause(s.alpha);
     if !(colour | alpha) {
         return false;
     }
@@ -86,10 +74,10 @@ pub(crate) fn warns_selector(s: Stage) -> bool
 }
 
 pub(crate) fn warns_modifier(s: Stage) -> bool
-    ensures { λ r. ⌜ r ≡ warns (either unknownModifier) s ⌝ }
+    ensures { λ r. ⌜ r ≡ warns modifierCause s ⌝ }
 {
-    let colour = unknown_modifier(s.colour);
-    let alpha = unknown_modifier(s.alpha);
+    let colour = modifier_cause(s.colour);
+    let alpha = modifier_cause(s.alpha);
     if !(colour | alpha) {
         return false;
     }

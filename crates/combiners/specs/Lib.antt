@@ -1,3 +1,4 @@
 pub mod Codes
 pub mod Arguments
 pub mod Combiners
+pub mod Warnings

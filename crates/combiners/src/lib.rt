@@ -1,7 +1,8 @@
-//! Arguments and operations: Microsoft's codes, an argument byte and an op code decoded, and an argument's text written.
+//! Arguments and operations: Microsoft's codes, an argument byte and an op code decoded, what they warn of, and an argument's text written.
 pub mod arguments;
 pub mod codes;
 pub mod ops;
+pub mod warnings;
 
 // Where an argument's value comes from.
 pub enum Source {

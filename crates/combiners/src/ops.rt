@@ -1,8 +1,8 @@
-//! The operation that a code names.
+//! The operation that a code names, and whether it has a text.
 use crate::Op;
 use crate::codes::*;
 ghost use mathlib.Core.Path.{_≡_};
-ghost use Rattle.combiners.specs.Combiners.{opOf};
+ghost use Rattle.combiners.specs.Combiners.{hasText, opOf};
 
 // The operation of a code: the codes without a text fall to argument 1.
 pub fn op_of(code: u8) -> Op
@@ -31,4 +31,13 @@ pub fn op_of(code: u8) -> Op
         D3DTOP_DOTPRODUCT3 => Op::DotProduct3,
         0..=1 | 17 | 22..=23 | 25..=255 => Op::Other,
     }
+}
+
+pub fn has_text(op: u8) -> bool
+    ensures { λ r. ⌜ r ≡ hasText op ⌝ }
+{
+    // PREMODULATE stands between the two runs.
+    let before = (D3DTOP_SELECTARG1 <= op) & (op <= D3DTOP_BLENDCURRENTALPHA);
+    let behind = (D3DTOP_MODULATEALPHA_ADDCOLOR <= op) & (op <= D3DTOP_MODULATEINVCOLOR_ADDALPHA);
+    before | (behind | (op == D3DTOP_DOTPRODUCT3))
 }

@@ -1,10 +1,9 @@
 -- What an accepted emission answers and writes, from what its parts promise.
-use Prim.Native.Nat.{ℕ, _+_, _≤_, _<_}
-use mathlib.Core.Bool.{Bool, true, false, cond}
+use Prim.Native.Nat.{ℕ, _≤_, _<_}
+use mathlib.Core.Bool.{true, false}
 use mathlib.Core.Path.{_≡_, refl, ap, sym, subst, _∙_}
 use mathlib.Core.List.{List, _++_}
 use native.Mathlib.Nat.{zero-add}
-use native.Mathlib.Omega.{arith}
 use borrow.Author.Tests.{le-ltb, lt-ltb}
 use lib.Dec.{leb, T, leb→le}
 use lib.ListN.{length, take, drop}
@@ -12,11 +11,9 @@ use lib.Seq.{take-at}
 use Rattle.text.specs.Text.{raw}
 use Rattle.text.specs.Buffer.{Wrote}
 use Rattle.text.proofs.Laws.{whole}
-use Rattle.cascade.specs.Keys.{active, either}
+use Rattle.cascade.specs.Keys.{active}
 use Rattle.cascade.specs.Reading.{lookupsOf}
-use Rattle.cascade.specs.Warnings.{withoutText, unknownSelector, unknownModifier, anyWarns, stageWarnings}
 use Rattle.cascade.specs.Survey.{surveyOf}
-use Rattle.values.specs.declared.Stage.{Stage}
 use Rattle.values.specs.declared.Key.{Key}
 use Rattle.cascade.specs.declared.Survey.{Survey}
 use Rattle.shader.specs.Whole.{wholeText}
@@ -36,20 +33,7 @@ use Rattle.shader.proofs.Names.Truth.{and-fst}
 use Rattle.shader.proofs.Names.Whole.{demand}
 use Rattle.shader.proofs.Numbers.{number-of-answer}
 
--- the warnings of the stages are three bits, and a good entry has at most 32 bytes
-cond-le : (b : Bool) (n : ℕ) → cond b n 0 ≤ n
-cond-le true n = omega arith
-cond-le false n = omega arith
-
-pub survey-warning : (l : List Stage) (u : Survey) → u ≡ surveyOf l → u .warning ≤ 7
-unfolding surveyOf stageWarnings
-survey-warning l u e =
-    let ss = active l in
-    let text = cond-le (anyWarns withoutText ss) 1 in
-    let selector = cond-le (anyWarns (either unknownSelector) ss) 2 in
-    let modifier = cond-le (anyWarns (either unknownModifier) ss) 4 in
-    rw e (omega (arith, text, selector, modifier))
-
+-- a good entry has at most 32 bytes
 pub entry-short : (e : Entry) → entryGood e ≡ true → e .len ≤ 32
 unfolding entryGood
 entry-short e h = leb→le (e .len) 32 (and-fst (leb (e .len) 32) _ (subst T (sym h) tt))
@@ -93,11 +77,21 @@ module _ (k : Key) (v : Variant) (e : Entry) (room : ℕ) where
   pub numbered : {a : Answer} → a ≡ answerOf k v e room → answerNumber a ≡ emissionNumber k v e room
   numbered h = ap answerNumber h ∙ number-of-answer k v e room
 
-pub accepted : (k : Key) (v : Variant) (e : Entry) (u : Survey) (at lookups warning : ℕ) → u ≡ surveyOf (k .stages) → at ≡ length (textOf k v e)
-    → lookups ≡ lookupsOf (u .live) (active (k .stages)) → warning ≡ u .warning + alphaWarning (v .«alpha_func»)
-    → record { length = at; mask = u .mask; rows = u .rows; lookups = lookups; warning = warning } ≡ emittedOf k v e
+pub accepted : (k : Key) (v : Variant) (e : Entry) (u : Survey) (at lookups : ℕ) → u ≡ surveyOf (k .stages) → at ≡ length (textOf k v e)
+    → lookups ≡ lookupsOf (u .live) (active (k .stages))
+    → record {
+      length = at;
+      mask = u .mask;
+      rows = u .rows;
+      lookups = lookups;
+      «op_warnings» = u .«op_warnings»;
+      «selector_warnings» = u .«selector_warnings»;
+      «modifier_warnings» = u .«modifier_warnings»;
+      «alpha_warning» = alphaWarning v;
+    }
+    ≡ emittedOf k v e
 unfolding surveyOf
-accepted k v e u at lookups warning hu ha hl hw = rw (hw, hl, ha, hu)
+accepted k v e u at lookups hu ha hl = rw (hl, ha, hu)
 
 pub demanded : (k : Key) (v : Variant) (e : Entry) (m : Emitted) (out out′ : List ℕ) → length (k .stages) ≤ 8 → entryGood e ≡ true → m ≡ emittedOf k v e
     → out′ ≡ inFront (textOf k v e) out → Demand3 k (take (m .length) out′) m

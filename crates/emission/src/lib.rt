@@ -12,34 +12,21 @@ pub use values::Key;
 pub use values::Refusal;
 pub use values::Stage;
 pub use values::Variant;
-ghost use Prim.Native.Nat.{_≤_, _<_, _+_};
+ghost use Prim.Native.Nat.{_≤_, _<_};
 ghost use mathlib.Core.Path.{_≡_};
 ghost use lib.ListN.{length};
 ghost use Rattle.cascade.specs.Keys.{active};
 ghost use Rattle.cascade.specs.Reading.{lookupsOf};
 ghost use Rattle.cascade.specs.Survey.{surveyOf};
-ghost use Rattle.shader.specs.Results.{alphaWarning, answerNumber, answerOf, bufferAfter, emissionNumber, frontOf, inFront, textOf};
+ghost use Rattle.shader.specs.Results.{answerNumber, answerOf, bufferAfter, emissionNumber, frontOf, inFront, textOf};
 ghost use Rattle.shader.specs.Demand.{Demanded};
 ghost use Rattle.values.specs.Admitted.{Admitted};
 
 // D3DCMP_ALWAYS, the last comparison that Direct3D 9 names.
 const ALWAYS: u8 = 8;
 
-const ALPHA_FUNC_WARNING: u8 = 8;
-
 // No text is longer.
 const MOST_TEXT: usize = 16384;
-
-// An alpha function that Direct3D 9 does not name warns too.
-fn warning_of(stages: u8, alpha_func: u8) -> u8
-    requires { ⌜ stages ≤ 7 ⌝ }
-    ensures { λ r. ⌜ r ≡ stages + alphaWarning «alpha_func» ⌝ }
-{
-    if ALWAYS < alpha_func {
-        return stages + ALPHA_FUNC_WARNING;
-    }
-    stages
-}
 
 // Writes the text to the front of out, if it fits; else out stays. No text is longer than 16,384 bytes: a buffer of that length takes it at
 // once, and for a shorter one it is written aside.
@@ -74,13 +61,15 @@ pub fn emit_checked(key: Key, variant: Variant, entry: Entry, out: &mut [u8]) ->
     if out.len() < written.at {
         return Answer::Refused(Refusal::NoRoom);
     }
-    let warning = warning_of(u.warning, variant.alpha_func);
     Answer::Text(Emitted {
         length: written.at,
         mask: u.mask,
         rows: u.rows,
         lookups: written.lookups,
-        warning: warning,
+        op_warnings: u.op_warnings,
+        selector_warnings: u.selector_warnings,
+        modifier_warnings: u.modifier_warnings,
+        alpha_warning: ALWAYS < variant.alpha_func,
     })
 }
 

@@ -5,9 +5,10 @@ use Prim.Native.Nat.{ℕ}
 use Prim.Native.Char.{code}
 use lib.ListN.{replicate}
 use Rattle.text.specs.Text.{decimalOf}
-use Rattle.cascade.specs.Keys.{active, maskOf, lastConstant, anyFactor, rowsOf}
+use Rattle.cascade.specs.Keys.{active, stagesWhere, lastConstant, anyFactor, rowsOf}
 use Rattle.cascade.specs.Reading.{live, lookupsOf, readsBumpEnv}
-use Rattle.cascade.specs.Warnings.{anyWarns, stageWarnings}
+use Rattle.combiners.specs.Warnings.{reported, maskFrom}
+use Rattle.cascade.specs.Warnings.{reportsFrom, warnedStages}
 use Rattle.shader.specs.Output.{specularText, fogText, testText, srgbText, returnText, outputText}
 use Rattle.values.specs.Flags.{stageFlagsBad}
 use Rattle.values.specs.Entries.{all, entryGood}
@@ -34,10 +35,10 @@ too-early = refl
 example : List ℕ
 example = (1 ∷ 1 ∷ replicate 57 0) ++ (2 ∷ replicate 19 0) ++ (3 ∷ 1 ∷ code "m" ∷ replicate 31 0) ++ (4 ∷ [])
 
-example-printed : programOutput example ≡ linesOf ("emit 0 0 0 0" ∷ (z1Lines ++ ("end 1" ∷ [])))
+example-printed : programOutput example ≡ linesOf ("emit 0 0 0 0 0 0 0" ∷ (z1Lines ++ ("end 1" ∷ [])))
 unfolding example programOutput printedFrom printed emitLine endLine decimalOf
     holding applyRead applyAs readRecord readAs readBody blankKey blankVariant blankEntry keyFromBody stagesFromBytes variantFromBody entryFromBody
-    active maskOf lastConstant anyFactor rowsOf live lookupsOf readsBumpEnv anyWarns stageWarnings stageFlagsBad all entryGood reservedWord answerOf
+    active stagesWhere lastConstant anyFactor rowsOf live lookupsOf readsBumpEnv reported maskFrom reportsFrom warnedStages stageFlagsBad all entryGood reservedWord answerOf
     specularText fogText testText srgbText returnText outputText varyingsText srgbHelperText fragmentText frontText stageInText samplersText
     parametersText spriteText stagesText localsText bodyText wholeText
 example-printed = refl

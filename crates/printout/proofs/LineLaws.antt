@@ -7,7 +7,7 @@ use native.Mathlib.Omega.{arith}
 use borrow.Author.Tests.{lt-ltb, le-ltb}
 use lib.Dec.{ltb}
 use lib.ListN.{length, length-append}
-use Rattle.text.specs.Text.{Text, flat, _⊕_, digit, decimalOf}
+use Rattle.text.specs.Text.{Text, bytes, flat, _⊕_, digit, decimal, decimalOf}
 use Rattle.text.specs.Buffer.{Wrote}
 use Rattle.text.proofs.Laws.{whole, pick-true, pick-false, one-digit}
 use Rattle.values.specs.declared.Emitted.{Emitted}
@@ -36,16 +36,31 @@ unfolding decimalOf
 digits-short zero n = omega arith
 digits-short (suc d) n = one-more (ltb n 10) d (48 + n) (48 + n % 10) (flat (decimalOf d (n / 10))) (digits-short d (n / 10))
 
-emit-short : (e : Emitted) → length (emitLine e) ≤ 89
+yes-or-no : (b : Bool) → length (cond b (bytes "1") (bytes "0")) ≡ 1
+yes-or-no true = refl
+yes-or-no false = refl
+
+emit-short : (e : Emitted) → length (emitLine e) ≤ 152
 unfolding emitLine
 emit-short e =
-    simp length-append (omega (arith, digits-short 20 (e .mask), digits-short 20 (e .rows), digits-short 20 (e .lookups), digits-short 20 (e .warning)))
+    let short : (n : ℕ) → length (flat (decimal n)) ≤ 20 = digits-short 20 in
+    simp length-append
+    (omega (
+      arith,
+      short (e .mask),
+      short (e .rows),
+      short (e .lookups),
+      short (e .«op_warnings»),
+      short (e .«selector_warnings»),
+      short (e .«modifier_warnings»),
+      yes-or-no (e .«alpha_warning»),
+    ))
 
-end-short : (n : ℕ) → length (endLine n) ≤ 89
+end-short : (n : ℕ) → length (endLine n) ≤ 152
 unfolding endLine
 end-short n = simp length-append (omega (arith, digits-short 20 n))
 
-refused-short : (c : Refusal) (p : ℕ) → length (refusedLine c p) ≤ 89
+refused-short : (c : Refusal) (p : ℕ) → length (refusedLine c p) ≤ 152
 unfolding refusedLine
 refused-short c p = simp length-append (omega (arith, digits-short 20 (numberOf c), digits-short 20 p))
 
@@ -53,17 +68,17 @@ refused-short c p = simp length-append (omega (arith, digits-short 20 (numberOf 
 abbrev Line : List ℕ → List ℕ → List ℕ → ℕ → Type 0
 Line line l l′ n = (n ≡ length line) × (l′ ≡ lineAfter line l)
 
-front-line : {l l′ : List ℕ} {n : ℕ} {t : Text} → Wrote l 0 l′ n t → length (flat t) ≤ 89 → length l ≡ 96 → Line (flat t) l l′ n
+front-line : {l l′ : List ℕ} {n : ℕ} {t : Text} → Wrote l 0 l′ n t → length (flat t) ≤ 152 → length l ≡ 160 → Line (flat t) l l′ n
 front-line w s h = (omega (arith, w .fits (omega arith) .1), whole w (omega arith))
 
-pub emit-line : {l l′ : List ℕ} {n : ℕ} (e : Emitted) → Wrote l 0 l′ n (emitText e) → length l ≡ 96 → Line (emitLine e) l l′ n
+pub emit-line : {l l′ : List ℕ} {n : ℕ} (e : Emitted) → Wrote l 0 l′ n (emitText e) → length l ≡ 160 → Line (emitLine e) l l′ n
 unfolding emitLine
 emit-line e w h = front-line w (emit-short e) h
 
-pub end-line : {l l′ : List ℕ} {n : ℕ} (m : ℕ) → Wrote l 0 l′ n (endText m) → length l ≡ 96 → Line (endLine m) l l′ n
+pub end-line : {l l′ : List ℕ} {n : ℕ} (m : ℕ) → Wrote l 0 l′ n (endText m) → length l ≡ 160 → Line (endLine m) l l′ n
 unfolding endLine
 end-line m w h = front-line w (end-short m) h
 
-pub refused-line : {l l′ : List ℕ} {n : ℕ} (c : Refusal) (p : ℕ) → Wrote l 0 l′ n (refusedText c p) → length l ≡ 96 → Line (refusedLine c p) l l′ n
+pub refused-line : {l l′ : List ℕ} {n : ℕ} (c : Refusal) (p : ℕ) → Wrote l 0 l′ n (refusedText c p) → length l ≡ 160 → Line (refusedLine c p) l l′ n
 unfolding refusedLine
 refused-line c p w h = front-line w (refused-short c p) h

@@ -4,7 +4,7 @@ use mathlib.Core.Bool.{cond}
 use mathlib.Core.List.{List, [], _∷_, _++_}
 use lib.Dec.{eqb, ltb}
 use lib.ListN.{length, drop}
-use Rattle.text.specs.Text.{Text, flat, decimal}
+use Rattle.text.specs.Text.{Text, flat, lit, pick, decimal}
 use Rattle.text.specs.Format.{format, _≔_}
 use Rattle.shader.specs.Results.{textOf}
 use Rattle.values.specs.declared.Emitted.{Emitted}
@@ -23,11 +23,21 @@ inputRoom = 32768
 abbrev pub textRoom : ℕ
 textRoom = 16384
 
+-- 02: "prints these four, decimal, yes as 1 and no as 0, in place of the sum"
+abbrev pub warningsText : Emitted → Text
+warningsText e =
+    format "{op} {selector} {modifier} {alpha}"
+    (("op" ≔ decimal (e .«op_warnings»))
+    ∷ ("selector" ≔ decimal (e .«selector_warnings»))
+    ∷ ("modifier" ≔ decimal (e .«modifier_warnings»))
+    ∷ ("alpha" ≔ pick (e .«alpha_warning») (lit "1") (lit "0"))
+    ∷ [])
+
 -- 01: "`emit` fields, decimal: mask, rows, lookups, warning."
 abbrev pub emitText : Emitted → Text
 emitText e =
-    (format "emit {mask} {rows} {lookups} {warning}\n"
-    (("mask" ≔ decimal (e .mask)) ∷ ("rows" ≔ decimal (e .rows)) ∷ ("lookups" ≔ decimal (e .lookups)) ∷ ("warning" ≔ decimal (e .warning)) ∷ []))
+    format "emit {mask} {rows} {lookups} {warnings}\n"
+    (("mask" ≔ decimal (e .mask)) ∷ ("rows" ≔ decimal (e .rows)) ∷ ("lookups" ≔ decimal (e .lookups)) ∷ ("warnings" ≔ warningsText e) ∷ [])
 
 unfoldable pub emitLine : Emitted → List ℕ
 emitLine e = flat (emitText e)

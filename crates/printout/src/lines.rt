@@ -2,6 +2,7 @@
 use text::put;
 use text::put_decimal;
 use text::put_digit;
+use text::put_either;
 use values::Emitted;
 use values::Refusal;
 use values::number;
@@ -9,10 +10,10 @@ ghost use mathlib.Core.Path.{_≡_};
 ghost use lib.ListN.{length};
 ghost use Rattle.text.specs.Text.{decimal, decimalOf};
 ghost use Rattle.text.specs.Buffer.{Wrote};
-ghost use Rattle.printout.specs.Program.{emitLine, endLine, lineAfter, refusedLine};
+ghost use Rattle.printout.specs.Program.{emitLine, endLine, lineAfter, refusedLine, warningsText};
 
 // No line is longer.
-pub const LINE_LENGTH: usize = 96;
+pub const LINE_LENGTH: usize = 160;
 
 // The most digits that a number of 64 bits has.
 const DIGITS: u8 = 20;
@@ -37,6 +38,18 @@ fn put_number(out: &mut [u8], at: usize, n: usize) -> usize
     put_digits(out, at, DIGITS, n)
 }
 
+fn put_warnings(out: &mut [u8], at: usize, emitted: Emitted) -> usize
+    ensures { λ r. ⌜ Wrote (now (out .entry)) at (now (out .exit)) r (warningsText emitted) ⌝ }
+{
+    let a = put_decimal(out, at, emitted.op_warnings);
+    let b = put(out, a, b" ");
+    let c = put_decimal(out, b, emitted.selector_warnings);
+    let d = put(out, c, b" ");
+    let e = put_decimal(out, d, emitted.modifier_warnings);
+    let f = put(out, e, b" ");
+    put_either(out, f, emitted.alpha_warning, b"1", b"0")
+}
+
 pub(crate) fn put_emit_line(line: &mut [u8; LINE_LENGTH], emitted: Emitted) -> usize
     ensures length { λ r. ⌜ r ≡ length (emitLine emitted) ⌝ }
     ensures line { λ _. ⌜ now (line .exit) ≡ lineAfter (emitLine emitted) (now (line .entry)) ⌝ }
@@ -48,7 +61,7 @@ pub(crate) fn put_emit_line(line: &mut [u8; LINE_LENGTH], emitted: Emitted) -> u
     let e = put(line, d, b" ");
     let f = put_decimal(line, e, emitted.lookups);
     let g = put(line, f, b" ");
-    let h = put_decimal(line, g, emitted.warning);
+    let h = put_warnings(line, g, emitted);
     put(line, h, b"\n")
 }
 

@@ -1,14 +1,15 @@
 -- What emission from values answers, and what it leaves in the lent buffer.
-use Prim.Native.Nat.{ℕ, _+_}
-use mathlib.Core.Bool.{not, cond}
+use Prim.Native.Nat.{ℕ}
+use mathlib.Core.Bool.{Bool, not, cond}
 use mathlib.Core.List.{List, [], _++_}
 use lib.Dec.{leb, ltb}
 use lib.ListN.{length, take, drop}
 use Rattle.text.specs.Text.{flat}
 use Rattle.combiners.specs.Codes.{always}
+use Rattle.combiners.specs.Warnings.{opCause, selectorCause, modifierCause}
 use Rattle.cascade.specs.Keys.{active, maskOf, rowsOf}
 use Rattle.cascade.specs.Reading.{live, lookupsOf}
-use Rattle.cascade.specs.Warnings.{stageWarnings}
+use Rattle.cascade.specs.Warnings.{warnedStages}
 use Rattle.values.specs.declared.Key.{Key}
 use Rattle.values.specs.Refusals.{numberOf}
 use Rattle.values.specs.Flags.{stageFlagsBad, variantFlagsBad}
@@ -26,12 +27,9 @@ use Rattle.values.specs.declared.Answer.the-variants.{Text, Refused}
 abbrev pub textOf : Key → Variant → Entry → List ℕ
 textOf k v e = flat (wholeText k v e)
 
--- 01: "8 for alpha function above 8, summed"
-abbrev pub alphaWarning : ℕ → ℕ
-alphaWarning f = cond (ltb always f) 8 0
-
-abbrev pub warningOf : Key → Variant → ℕ
-warningOf k v = stageWarnings (active (k .stages)) + alphaWarning (v .«alpha_func»)
+-- 01: "alpha function above 8"
+abbrev pub alphaWarning : Variant → Bool
+alphaWarning v = ltb always (v .«alpha_func»)
 
 abbrev pub emittedOf : Key → Variant → Entry → Emitted
 emittedOf k v e =
@@ -40,7 +38,10 @@ emittedOf k v e =
       mask = maskOf (active (k .stages));
       rows = rowsOf (active (k .stages));
       lookups = lookupsOf (live (active (k .stages))) (active (k .stages));
-      warning = warningOf k v;
+      «op_warnings» = warnedStages opCause (active (k .stages));
+      «selector_warnings» = warnedStages selectorCause (active (k .stages));
+      «modifier_warnings» = warnedStages modifierCause (active (k .stages));
+      «alpha_warning» = alphaWarning v;
     }
 
 -- 01: "Emission from values .. check 3, 5, 6 and 8 in that order"; 02 puts 13 behind 6. room is the buffer's length.

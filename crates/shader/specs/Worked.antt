@@ -1,9 +1,9 @@
--- The worked stages of 01, Z1 to Z9: for each a key, a variant and what 01 names of the text and the result.
+-- The worked stages of 01, Z1 to Z9, and W1 to W6 for 02's warnings by stage: for each a key, a variant and what is named of the text and the result.
 -- 01: "Unless said otherwise: stage 0, no texture, result CURRENT, alpha op 1, unnamed arguments 0, every other stage op 1."
 use Prim.Native.Nat.{ℕ, zero, suc}
 use Prim.Native.Char.{code}
 use Prim.Native.String.{String}
-use mathlib.Core.Bool.{Bool, true, false, not, _&&_, _||_}
+use mathlib.Core.Bool.{Bool, true, false, not, _&&_, _||_, cond}
 use mathlib.Core.List.{List, [], _∷_, _++_}
 use lib.Dec.{eqb}
 use lib.ListN.{replicate}
@@ -13,6 +13,7 @@ use Rattle.values.specs.declared.Stage.{Stage}
 use Rattle.values.specs.declared.Key.{Key}
 use Rattle.values.specs.declared.Variant.{Variant}
 use Rattle.values.specs.declared.Entry.{Entry}
+use Rattle.values.specs.declared.Emitted.{Emitted}
 use Rattle.shader.specs.Names.{begins}
 use Rattle.shader.specs.Results.{textOf, emittedOf}
 
@@ -20,7 +21,8 @@ use Rattle.shader.specs.Results.{textOf, emittedOf}
 pub data Named : Type 0 where
   whole : List String → Named
   part lacks : String → Named
-  mask rows lookups warning : ℕ → Named
+  mask rows lookups : ℕ → Named
+  warnings : ℕ → ℕ → ℕ → Bool → Named
 
 pub record Worked : Type 0 where
   pub name : String
@@ -94,7 +96,7 @@ z1 =
       name = "Z1";
       stages = padded 8 (bare 0) (bare 1 ∷ []);
       alphaFunc = 0;
-      named = whole z1Lines ∷ mask 0 ∷ rows 0 ∷ lookups 0 ∷ warning 0 ∷ [];
+      named = whole z1Lines ∷ mask 0 ∷ rows 0 ∷ lookups 0 ∷ warnings 0 0 0 false ∷ [];
     }
 
 abbrev pub table : List Worked
@@ -113,6 +115,12 @@ table =
     ∷ line "Z8, function 8" [] 8 (lacks "discard_fragment" ∷ [])
     ∷ line "Z8, function 9" [] 9 (part "    if (!(true)) discard_fragment();\n" ∷ [])
     ∷ line "Z9" (stage 13 0 4 0 ∷ []) 0 (part "    current = float4((in.color1).rgb, (current).a);\n" ∷ [])
+    ∷ line "W1, op of stage 1" (stage 2 0 0 0 ∷ stage 17 0 0 0 ∷ []) 0 (warnings 2 0 0 false ∷ [])
+    ∷ line "W2, argument that op 2 discards" (stage 2 0 0x4f 0 ∷ []) 0 (warnings 0 1 1 false ∷ [])
+    ∷ line "W3, dead TEMP" (stage 2 0 0 0 ∷ stage 17 0x47 0 2 ∷ []) 0 (warnings 2 2 2 false ∷ [])
+    ∷ line "W4, fallback" (stage 17 2 0x4f 0 ∷ []) 0 (warnings 0 0 0 false ∷ [])
+    ∷ line "W5, bump stage" (stage 22 0x4f 0x4f 1 ∷ []) 0 (warnings 0 0 0 false ∷ [])
+    ∷ line "W6, function 9" [] 9 (warnings 0 0 0 true ∷ [])
     ∷ []
 
 abbrev pub workedKey : Worked → Key
@@ -149,6 +157,10 @@ abbrev pub contains : List ℕ → List ℕ → Bool
 contains p [] = begins p []
 contains p (y ∷ t) = begins p (y ∷ t) || contains p t
 
+-- the masks of ops, selectors and modifiers, and whether the alpha function warns
+abbrev pub warned : ℕ → ℕ → ℕ → Bool → Emitted → Bool
+warned o s m a e = eqb (e .«op_warnings») o && (eqb (e .«selector_warnings») s && (eqb (e .«modifier_warnings») m && cond a (e .«alpha_warning») (not (e .«alpha_warning»))))
+
 abbrev pub holds : Worked → Named → Bool
 holds w (whole ls) = same (linesOf ls) (textOf (workedKey w) (workedVariant w) entryM)
 holds w (part s) = contains (bytes s) (textOf (workedKey w) (workedVariant w) entryM)
@@ -156,7 +168,7 @@ holds w (lacks s) = not (contains (bytes s) (textOf (workedKey w) (workedVariant
 holds w (mask n) = eqb (emittedOf (workedKey w) (workedVariant w) entryM .mask) n
 holds w (rows n) = eqb (emittedOf (workedKey w) (workedVariant w) entryM .rows) n
 holds w (lookups n) = eqb (emittedOf (workedKey w) (workedVariant w) entryM .lookups) n
-holds w (warning n) = eqb (emittedOf (workedKey w) (workedVariant w) entryM .warning) n
+holds w (warnings o s m a) = warned o s m a (emittedOf (workedKey w) (workedVariant w) entryM)
 
 abbrev pub allHold : Worked → List Named → Bool
 allHold w [] = true

@@ -45,13 +45,16 @@ pub struct Entry {
     pub name: [u8; 32],
 }
 
-// What an accepted emission reports of its text.
+// What an accepted emission reports of its text. The masks, of textured stages and of those that warn, have bit i for stage i.
 pub struct Emitted {
     pub length: usize,
     pub mask: u8,
     pub rows: u8,
     pub lookups: u8,
-    pub warning: u8,
+    pub op_warnings: u8,
+    pub selector_warnings: u8,
+    pub modifier_warnings: u8,
+    pub alpha_warning: bool,
 }
 
 // Why a call is refused: 1 to 9 in order, then 13.

@@ -30,15 +30,19 @@ use Rattle.yuzuknoll.proofs.Lent.{not-zero, left, first-refused, first-
 use Rattle.yuzuknoll.proofs.Checking.{taken}
 use Rattle.yuzuknoll.proofs.Emitting.{Emits, admitted}
 
--- five numbers, one by one
-pub five : (l : List ℕ) → length l ≡ 5 → getD l 0 0 ∷ getD l 1 0 ∷ getD l 2 0 ∷ getD l 3 0 ∷ getD l 4 0 ∷ [] ≡ l
-five [] h = absurd (omega arith)
-five (a ∷ []) h = absurd (omega arith)
-five (a ∷ b ∷ []) h = absurd (omega arith)
-five (a ∷ b ∷ c ∷ []) h = absurd (omega arith)
-five (a ∷ b ∷ c ∷ d ∷ []) h = absurd (omega arith)
-five (a ∷ b ∷ c ∷ d ∷ e ∷ []) h = refl
-five (a ∷ b ∷ c ∷ d ∷ e ∷ f ∷ l) h = absurd (omega arith)
+-- eight numbers, one by one
+pub eight : (l : List ℕ) → length l ≡ 8
+    → getD l 0 0 ∷ getD l 1 0 ∷ getD l 2 0 ∷ getD l 3 0 ∷ getD l 4 0 ∷ getD l 5 0 ∷ getD l 6 0 ∷ getD l 7 0 ∷ [] ≡ l
+eight [] p = absurd (omega arith)
+eight (a ∷ []) p = absurd (omega arith)
+eight (a ∷ b ∷ []) p = absurd (omega arith)
+eight (a ∷ b ∷ c ∷ []) p = absurd (omega arith)
+eight (a ∷ b ∷ c ∷ d ∷ []) p = absurd (omega arith)
+eight (a ∷ b ∷ c ∷ d ∷ e ∷ []) p = absurd (omega arith)
+eight (a ∷ b ∷ c ∷ d ∷ e ∷ f ∷ []) p = absurd (omega arith)
+eight (a ∷ b ∷ c ∷ d ∷ e ∷ f ∷ g ∷ []) p = absurd (omega arith)
+eight (a ∷ b ∷ c ∷ d ∷ e ∷ f ∷ g ∷ h ∷ []) p = refl
+eight (a ∷ b ∷ c ∷ d ∷ e ∷ f ∷ g ∷ h ∷ i ∷ r) p = absurd (omega arith)
 
 both : (a b : Bool) → (a && b) ≡ true → (a ≡ true) × (b ≡ true)
 both true b e = (refl, e)

@@ -4,7 +4,7 @@ use mathlib.Core.Bool.{Bool, true, false, not, cond}
 use mathlib.Core.Path.{_≡_, refl, sym, ap, _∙_}
 use mathlib.Core.List.{List}
 use native.Mathlib.Omega.{arith}
-use lib.Dec.{ltb}
+use lib.Dec.{eqb, ltb}
 use lib.ListN.{length}
 use Rattle.values.specs.Refusals.{numberOf}
 use Rattle.values.specs.Flags.{stageFlagsBad, variantFlagsBad}
@@ -27,6 +27,11 @@ use Rattle.wire.specs.declared.Kind.the-variants as kind
 use Rattle.yuzuknoll.specs.Lent.{after, firstOf, atFront, resultNumbers, ReportedDemand3}
 use Rattle.yuzuknoll.specs.Emitting.{bodiesNumber, bodiesText, bodiesResult}
 use Rattle.yuzuknoll.proofs.Lent.{not-zero, left, first-refused, first-passed}
+
+-- yes as 1 and no as 0 tells which it was
+told : (b : Bool) → eqb (cond b 1 0) 1 ≡ b
+told true = refl
+told false = refl
 
 -- What emission from values leaves, by its number n: the text in out′ and its result in res′.
 module _ (k : Key) (v : Variant) (e : Entry) (out res : List ℕ) where
@@ -67,7 +72,7 @@ module _ (k : Key) (v : Variant) (e : Entry) (out res : List ℕ) where
   pub emission-accepted : {a : Answer} {out′ res′ : List ℕ} {m : Emitted} → Promise a out′ → a ≡ Text m → res′ ≡ resultNumbers m → Emits 0 out′ res′
   emission-accepted p g q =
       let p′ = rw g at p in
-      (p′ .1 .1 .1, (p′ .1 .0, (q ∙ ap resultNumbers (accepted (sym (p′ .0))), λ z. rw q (p′ .1 .1 .0))))
+      (p′ .1 .1 .1, (p′ .1 .0, (q ∙ ap resultNumbers (accepted (sym (p′ .0))), λ z. rw (q, told) (p′ .1 .1 .0))))
 
 -- What the numbers of bodies tell of their values.
 

@@ -1,9 +1,11 @@
--- A refusal's number is not 0, so that it leaves what is lent and no later number counts; numbers stored one by one fill their array.
+-- A refusal's number is not 0, so that it leaves what is lent and no later number counts; numbers stored one by one fill their array, yes as 1.
 use Prim.Native.Nat.{ℕ, _≤_}
-use mathlib.Core.Path.{_≡_, _∙_}
+use mathlib.Core.Bool.{Bool, true, false, cond}
+use mathlib.Core.Path.{_≡_, refl, _∙_}
 use mathlib.Core.List.{List, append-nil}
 use native.Mathlib.Nat.{zero-add}
 use native.Mathlib.Omega.{arith}
+use mir.Val.{boolByte}
 use borrow.Author.Tests.{ne-eqb}
 use lib.ListN.{length, drop-of-length-le}
 use lib.Seq.{sets, sets-eq}
@@ -36,3 +38,7 @@ first-passed e z q = rw (← e, z) q
 pub filled : (vs l : List ℕ) → length l ≡ length vs → sets l 0 vs ≡ vs
 filled vs l h =
     let k : length l ≤ length vs = omega arith in sets-eq vs l 0 (omega arith) ∙ rw (zero-add, drop-of-length-le l k) (append-nil vs)
+
+pub yes-as-one : (b : Bool) → boolByte b ≡ cond b 1 0
+yes-as-one true = refl
+yes-as-one false = refl

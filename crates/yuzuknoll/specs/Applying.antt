@@ -4,7 +4,7 @@ use Prim.Native.Nat.{ℕ, _+_}
 use mathlib.Core.Bool.{Bool, _&&_}
 use mathlib.Core.List.{List, [], _∷_, _++_}
 use lib.Dec.{eqb}
-use lib.ListN.{take, drop, getD}
+use lib.ListN.{take, drop, getD, replicate}
 use lib.Seq.{sets}
 use Rattle.shader.specs.Results.{emittedOf, textOf}
 use Rattle.wire.specs.Bodies.{kindByte, bodyLength, recordLength, keyFromBody, variantFromBody, entryFromBody}
@@ -61,7 +61,7 @@ textWith k h out = onEmit k (atFront (textOf (h .key) (h .variant) (h .entry)) o
 
 -- the text's result, 0 in its place where there is none
 abbrev pub noResult : List ℕ
-noResult = 0 ∷ 0 ∷ 0 ∷ 0 ∷ 0 ∷ []
+noResult = replicate 8 0
 
 unfoldable pub resultWith : Kind → Held → List ℕ
 resultWith k h = onEmit k (resultNumbers (emittedOf (h .key) (h .variant) (h .entry))) noResult

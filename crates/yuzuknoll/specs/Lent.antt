@@ -26,15 +26,33 @@ atFront bytes out = bytes ++ drop (length bytes) out
 abbrev pub recordNumbers : Kind → List ℕ
 recordNumbers k = kindByte k ∷ recordLength k ∷ []
 
--- length, mask, rows, lookups and warning
+-- a result as eight numbers, yes as 1 and no as 0
 abbrev pub resultNumbers : Emitted → List ℕ
-resultNumbers m = m .length ∷ m .mask ∷ m .rows ∷ m .lookups ∷ m .warning ∷ []
+resultNumbers m =
+    m .length
+    ∷ m .mask
+    ∷ m .rows
+    ∷ m .lookups
+    ∷ m .«op_warnings»
+    ∷ m .«selector_warnings»
+    ∷ m .«modifier_warnings»
+    ∷ cond (m .«alpha_warning») 1 0
+    ∷ []
 
--- the result that five numbers report
+-- the result that eight numbers report
 abbrev pub resultOf : List ℕ → Emitted
 resultOf l =
-    record { length = getD l 0 0; mask = getD l 1 0; rows = getD l 2 0; lookups = getD l 3 0; warning = getD l 4 0 }
+    record {
+      length = getD l 0 0;
+      mask = getD l 1 0;
+      rows = getD l 2 0;
+      lookups = getD l 3 0;
+      «op_warnings» = getD l 4 0;
+      «selector_warnings» = getD l 5 0;
+      «modifier_warnings» = getD l 6 0;
+      «alpha_warning» = eqb (getD l 7 0) 1;
+    }
 
--- demand 3 of a key, of the buffer that the text begins, and of the five numbers
+-- demand 3 of a key, of the buffer that the text begins, and of the eight numbers
 abbrev pub ReportedDemand3 : Key → List ℕ → List ℕ → Type 0
 ReportedDemand3 key out l = Demand3 key (take (getD l 0 0) out) (resultOf l)

@@ -2,6 +2,7 @@
 use crate::ACCEPTED;
 use crate::check::kind_number;
 use crate::check::record_number;
+use crate::emit::RESULT_LENGTH;
 use crate::emit::emit_values;
 use crate::read::kind_in;
 use crate::refuse;
@@ -42,6 +43,9 @@ const ENTRY_BODY: usize = 80;
 
 const HELD_LENGTH: usize = 113;
 
+// A record's kind and length, and a result.
+const APPLIED_LENGTH: usize = 10;
+
 // Where the record of a kind begins in the held bytes.
 fn place_of(kind: Kind) -> usize
     ensures { λ r. ⌜ r ≡ placeOf kind ⌝ }
@@ -81,7 +85,7 @@ fn holds_all(held: &[u8]) -> bool
 }
 
 // Emission from the held values.
-fn emit_held(held: &[u8], text: &mut [u8], result: &mut [u64; 5]) -> u64
+fn emit_held(held: &[u8], text: &mut [u8], result: &mut [u64; RESULT_LENGTH]) -> u64
     requires { ⌜ length (now held) ≡ 113 ⌝ }
     ensures number { λ r. ⌜ r ≡ emitNumber (heldOf (now (held .entry))) (length (now (text .entry))) ⌝ }
     ensures text { λ r. ⌜ now (text .exit) ≡ after r (textWith Kind.Emit (heldOf (now (held .entry))) (now (text .entry))) (now (text .entry)) ⌝ }
@@ -97,7 +101,7 @@ fn emit_held(held: &[u8], text: &mut [u8], result: &mut [u64; 5]) -> u64
     emit_values(key, variant, entry, text, result)
 }
 
-fn report_applied(kind: Kind, result: [u64; 5], applied: &mut [u64; 7])
+fn report_applied(kind: Kind, result: [u64; RESULT_LENGTH], applied: &mut [u64; APPLIED_LENGTH])
     ensures { λ _. ⌜ now (applied .exit) ≡ recordNumbers kind ++ result ⌝ }
 {
     *applied = [
@@ -108,11 +112,19 @@ fn report_applied(kind: Kind, result: [u64; 5], applied: &mut [u64; 7])
         result[2],
         result[3],
         result[4],
+        result[5],
+        result[6],
+        result[7],
     ];
 }
 
 // A value's record, over its part of the held bytes.
-fn keep_record(kind: Kind, bytes: &[u8], held: &mut [u8], applied: &mut [u64; 7]) -> u64
+fn keep_record(
+    kind: Kind,
+    bytes: &[u8],
+    held: &mut [u8],
+    applied: &mut [u64; APPLIED_LENGTH],
+) -> u64
     requires { ⌜ (placeOf kind + recordLength kind ≤ length (now held)) × (recordLength kind ≤ length (now bytes)) ⌝ }
     ensures number { λ r. ⌜ r ≡ 0 ⌝ }
     ensures held { λ _. ⌜ now (held .exit) ≡ sets (now (held .entry)) (placeOf kind) (take (recordLength kind) (now (bytes .entry))) ⌝ }
@@ -120,19 +132,19 @@ fn keep_record(kind: Kind, bytes: &[u8], held: &mut [u8], applied: &mut [u64; 7]
 {
     let n = record_length(kind);
     put(held, place_of(kind), &bytes[..n]);
-    report_applied(kind, [0u64; 5], applied);
+    report_applied(kind, [0u64; RESULT_LENGTH], applied);
     ACCEPTED
 }
 
 // An emit record.
-fn emit_record(held: &[u8], text: &mut [u8], applied: &mut [u64; 7]) -> u64
+fn emit_record(held: &[u8], text: &mut [u8], applied: &mut [u64; APPLIED_LENGTH]) -> u64
     requires { ⌜ length (now held) ≡ 113 ⌝ }
     ensures number { λ r. ⌜ r ≡ emitNumber (heldOf (now (held .entry))) (length (now (text .entry))) ⌝ }
     ensures text { λ r. ⌜ now (text .exit) ≡ after r (textWith Kind.Emit (heldOf (now (held .entry))) (now (text .entry))) (now (text .entry)) ⌝ }
     ensures applied { λ r. ⌜ now (applied .exit) ≡ after r (appliedNumbers Kind.Emit (heldOf (now (held .entry)))) (now (applied .entry)) ⌝ }
     ensures names { λ r. ⌜ (r ≡ 0 → ReportedDemand3 (heldOf (now (held .entry)) .key) (now (text .exit)) (drop 2 (now (applied .exit)))) ⌝ }
 {
-    let mut result = [0u64; 5];
+    let mut result = [0u64; RESULT_LENGTH];
     let number = emit_held(held, text, &mut result);
     if number != ACCEPTED {
         return number;
@@ -142,13 +154,13 @@ fn emit_record(held: &[u8], text: &mut [u8], applied: &mut [u64; 7]) -> u64
 }
 
 // Applies the record at the front of bytes: it is held, or writes the text of what is held to the front of text. Reports its kind and length, and
-// the text's length, mask, rows, lookups and warning, which are 0 for a record that is held.
+// the text's length, mask, rows, lookups and warnings, which are 0 for a record that is held.
 #[no_mangle]
 pub extern "C" fn yuzuknoll_apply(
     held: &mut [u8; 113],
     bytes: &[u8],
     text: &mut [u8],
-    applied: &mut [u64; 7],
+    applied: &mut [u64; APPLIED_LENGTH],
 ) -> u64
     ensures number { λ r. ⌜ r ≡ appliedNumber (heldOf (now (held .entry))) (now (bytes .entry)) (length (now (text .entry))) ⌝ }
     ensures held { λ r. ⌜ now (held .exit) ≡ after r (heldWith (kindIn (now (bytes .entry))) (now (bytes .entry)) (now (held .entry))) (now (held .entry)) ⌝ }

@@ -21,7 +21,10 @@ ghost use Rattle.wire.specs.Bodies.{keyFromBody};
 ghost use Rattle.yuzuknoll.specs.Lent.{ReportedDemand3, after, atFront, resultNumbers};
 ghost use Rattle.yuzuknoll.specs.Emitting.{bodiesNumber, bodiesResult, bodiesText};
 
-fn report(emitted: Emitted, result: &mut [u64; 5])
+// Length, mask, rows, lookups, and the four warnings.
+pub(crate) const RESULT_LENGTH: usize = 8;
+
+fn report(emitted: Emitted, result: &mut [u64; RESULT_LENGTH])
     ensures { λ _. ⌜ now (result .exit) ≡ resultNumbers emitted ⌝ }
 {
     *result = [
@@ -29,7 +32,10 @@ fn report(emitted: Emitted, result: &mut [u64; 5])
         emitted.mask as u64,
         emitted.rows as u64,
         emitted.lookups as u64,
-        emitted.warning as u64,
+        emitted.op_warnings as u64,
+        emitted.selector_warnings as u64,
+        emitted.modifier_warnings as u64,
+        emitted.alpha_warning as u64,
     ];
 }
 
@@ -39,7 +45,7 @@ pub(crate) fn emit_values(
     variant: Variant,
     entry: Entry,
     text: &mut [u8],
-    result: &mut [u64; 5],
+    result: &mut [u64; RESULT_LENGTH],
 ) -> u64
     requires { ⌜ Admitted key variant entry ⌝ }
     ensures number { λ r. ⌜ r ≡ emissionNumber key variant entry (length (now (text .entry))) ⌝ }
@@ -56,14 +62,14 @@ pub(crate) fn emit_values(
     }
 }
 
-// Writes the text of a key, a variant and an entry to the front of text, and its length, mask, rows, lookups and warning to result.
+// Writes the text of a key, a variant and an entry to the front of text, and its length, mask, rows, lookups and warnings to result.
 #[no_mangle]
 pub extern "C" fn yuzuknoll_emit(
     key: &[u8; 58],
     variant: &[u8; 19],
     entry: &[u8; 33],
     text: &mut [u8],
-    result: &mut [u64; 5],
+    result: &mut [u64; RESULT_LENGTH],
 ) -> u64
     ensures number { λ r. ⌜ r ≡ bodiesNumber (now (key .entry)) (now (variant .entry)) (now (entry .entry)) (length (now (text .entry))) ⌝ }
     ensures text { λ r. ⌜ now (text .exit) ≡ after r (atFront (bodiesText (now (key .entry)) (now (variant .entry)) (now (entry .entry))) (now (text .entry))) (now (text .entry)) ⌝ }

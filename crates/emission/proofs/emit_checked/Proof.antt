@@ -7,7 +7,7 @@ use borrow.Author.Needs.{needs}
 use lib.ListN.{length, length-map}
 use Rattle.values.specs.declared.Answer.the-variants.{Text}
 use Rattle.shader.specs.Results.{textOf}
-use Rattle.emission.proofs.Answers.{survey-warning, entry-short, no-room, with-room, numbered, accepted, demanded}
+use Rattle.emission.proofs.Answers.{entry-short, no-room, with-room, numbered, accepted, demanded}
 use Rattle.emission.proofs.emit_checked.Statement.{statement}
 use Rattle.emission.proofs.emit_checked.Tie as tie
 
@@ -36,9 +36,6 @@ returns c =
     let a = no-room (s .args .key) (s .args .variant) (s .args .entry) (length (out p)) (s .pre) h in
     (a, (w .1 .1 .0 h, (tt, numbered _ _ _ _ a)))
 
-warning-of-requires : tie.Need-warning-of-requires
-warning-of-requires c κs = let p = c .before .before .before .before in survey-warning _ _ (p .before .before .survey .ensures)
-
 returns-2 : tie.Need-returns-2
 returns-2 c =
     let p = c .before .before .before .before .before in
@@ -50,7 +47,7 @@ returns-2 c =
     let w = p .put-text .ensures in
     let stages : length (k .stages) ≡ 8 = sym (length-map (k .stages) _) ∙ s .good .0 .1 .1 .0 .1 .0 .1 in
     let h : length (text p) ≤ length (out p) = omega (arith, w .0, c .before .if1 .left) in
-    let m = accepted k v e (u .survey .result) _ _ _ (u .survey .ensures) (w .0) (w .1 .1 .1) (c .warning-of .ensures) in
+    let m = accepted k v e (u .survey .result) _ _ (u .survey .ensures) (w .0) (w .1 .1 .1) in
     let b = w .1 .0 h in
     let a = ap Text m ∙ with-room k v e (length (out p)) (s .pre) h in
     (a, (b, (demanded k v e _ (out p) _ (omega arith) (s .pre .entryName) m b, numbered k v e (length (out p)) a)))
@@ -63,6 +60,5 @@ emit-checked-spec =
     put-text-requires
     (λ c. search needs)
     returns
-    warning-of-requires
     (λ c. search needs)
     returns-2)

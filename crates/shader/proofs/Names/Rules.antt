@@ -8,7 +8,7 @@ use lib.Dec.{T, eqb, eqb→eq, T-not}
 use lib.ListN.{length}
 use Rattle.combiners.specs.Codes.{disable, selectArg2, blendFactorAlpha, texture, factor, constant}
 use Rattle.combiners.specs.Combiners.{hasText, keepsFirst, keepsSecond}
-use Rattle.cascade.specs.Keys.{textured, toTemp, active, selects, reads, readsFirst, readsSecond, fallsBack, isBumpOp, bump, alphaFromColour, maskOf, readsConstant, namesFactor, lastConstant, anyFactor, rowsOf}
+use Rattle.cascade.specs.Keys.{textured, toTemp, active, selects, reads, readsFirst, readsSecond, fallsBack, isBumpOp, bump, alphaFromColour, stagesWhere, maskOf, readsConstant, namesFactor, lastConstant, anyFactor, rowsOf}
 use Rattle.cascade.specs.Stages.{fallback, combined, alphaOf}
 use Rattle.cascade.specs.Reading.{keeps, readsTexelBy, alphaWritten, readsTemp, readsTexel, live, lined, marked, lookupsOf, luminance, readsBumpEnv}
 use Rattle.values.specs.declared.Combiner.{Combiner}
@@ -89,7 +89,7 @@ active-short (s ∷ r) =
 
 -- the lookups are no more than the mask's bits
 pub lookups-masked : (alive : Bool) (n : ℕ) (ss : List Stage) → length ss ≤ n → Enabled ss → lookupsOf alive ss ≤ setBits n (maskOf ss)
-unfolding lookupsOf maskOf
+unfolding lookupsOf stagesWhere
 lookups-masked alive n [] l e = omega arith
 lookups-masked alive zero (s ∷ r) l e = absurd (omega arith)
 lookups-masked alive (suc n) (s ∷ r) l e =

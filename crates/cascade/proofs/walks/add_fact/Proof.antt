@@ -5,22 +5,28 @@ use Rattle.cascade.proofs.PlainStages.{kept-constant}
 use Rattle.cascade.proofs.walks.add_fact.Statement.{statement}
 use Rattle.cascade.proofs.walks.add_fact.Tie as tie
 
-returns : tie.Need-returns
-returns c =
-    let op = c .before in
-    let factor = op .before .before in
-    let mask = factor .before .before in
-    let test = mask .before .before in
+plain : tie.Need-returns
+plain c =
+    let selector = c .before in
+    let op = selector .before in
+    let warned = op .before in
+    let factor = warned .before .before in
+    let mask = factor .before in
+    let texture = mask .before in
+    let test = texture .before in
     let p = test .before .is-plain .ensures (test .if1 .taken) in
     rw (
-      mask .when .ensures .0,
-      mask .before .textured .ensures,
+      mask .in-front .ensures,
+      texture .textured .ensures,
       p .constant,
       p .factor,
       factor .blends-by-factor .ensures,
       p .temp,
-      op .warns-op .ensures,
+      op .in-front2 .ensures,
+      warned .warns-op .ensures,
+      selector .in-front3 .ensures,
       p .selector,
+      c .in-front4 .ensures,
       p .modifier,
       and-false,
       ← kept-constant,
@@ -29,6 +35,8 @@ returns c =
 pub add-fact-spec : {M : Type 1} → statement M
 add-fact-spec {M} =
     let test = tie.spec {M = M} (λ c κs. tt) in
-    let plain = test (λ c κs. tt) (λ c κs. tt) (λ c. search needs) (λ c. search needs) (λ c κs. tt) (λ c κs. tt) returns in
-    let rows = plain (λ c κs. tt) (λ c κs. tt) (λ c. search needs) (λ c. search needs) (λ c κs. search needs) in
-    tie.close (rows (λ c κs. tt) (λ c κs. tt) (λ c κs. tt) (λ c κs. tt) (λ c κs. tt) (λ c κs. tt) (λ c. cc))
+    let masks = test (λ c κs. tt) (λ c κs. search needs) (λ c κs. tt) (λ c κs. tt) in
+    let quick = masks (λ c κs. search needs) (λ c κs. search needs) (λ c κs. search needs) plain in
+    let rows = quick (λ c κs. tt) (λ c κs. search needs) (λ c κs. search needs) (λ c κs. tt) (λ c κs. tt) (λ c κs. tt) in
+    let ops = rows (λ c κs. tt) (λ c κs. search needs) in
+    tie.close (ops (λ c κs. tt) (λ c κs. search needs) (λ c κs. tt) (λ c κs. search needs) (λ c. cc))

@@ -1,23 +1,19 @@
--- The count, the two walks, the row count and the warning together are the survey.
+-- The count, the two walks and the row count together are the survey.
+use mathlib.Core.Path.{_≡_, sym, _∙_}
 use borrow.Author.Needs.{needs}
+use lib.ListN.{length, length-map}
 use Rattle.cascade.proofs.Walking.{surveyed}
 use Rattle.cascade.proofs.walks.survey.Statement.{statement}
 use Rattle.cascade.proofs.walks.survey.Tie as tie
 
 returns : tie.Need-returns
 returns c =
-    let selector = c .before in
-    let op = selector .before in
-    let rows = op .before in
-    let marks = rows .before in
+    let marks = c .before in
     let facts = marks .before in
     let count = facts .before in
-    surveyed _ _ _ _ _ _ _ _ (count .active-count .ensures) (facts .facts-of .ensures) (marks .marks-from .ensures) (rows .rows .ensures)
-    (op .when .ensures .0)
-    (selector .when2 .ensures .0)
-    (c .when3 .ensures .0)
+    let k = count .before .args .k in
+    let stages : length (k .stages) ≡ 8 = sym (length-map (k .stages) _) ∙ count .before .good .0 .1 .1 .0 .1 .0 .1 in
+    surveyed _ _ _ _ _ stages (count .active-count .ensures) (facts .facts-of .ensures) (marks .marks-from .ensures) (c .rows .ensures)
 
 pub survey-spec : {M : Type 1} → statement M
-survey-spec =
-    let walks = tie.spec (λ c κs. tt) (λ c κs. search needs) (λ c κs. search needs) (λ c κs. tt) in
-    tie.close (walks (λ c κs. tt) (λ c κs. tt) (λ c. search needs) (λ c κs. tt) (λ c. search needs) returns)
+survey-spec = tie.close (tie.spec (λ c κs. tt) (λ c κs. search needs) (λ c κs. search needs) (λ c κs. tt) returns)

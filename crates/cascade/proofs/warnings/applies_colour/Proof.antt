@@ -5,4 +5,4 @@ use Rattle.cascade.proofs.warnings.applies_colour.Tie as tie
 
 pub applies-colour-spec : {M : Type 1} → statement M
 unfolding appliesColour
-applies-colour-spec = tie.close (tie.spec (λ c κs. tt) (λ c κs. tt) (λ c κs. tt) (λ c. cc))
+applies-colour-spec = tie.close (tie.spec (λ c κs. tt) (λ c κs. tt) (λ c κs. tt) (λ c. rw (c .before .before .is-bump .ensures, c .falls-back .ensures, c .before .textured .ensures)))

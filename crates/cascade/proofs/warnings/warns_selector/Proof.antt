@@ -1,5 +1,5 @@
 -- Where neither combiner gives the cause the stage does not warn; else it counts where they are applied.
-use Rattle.cascade.specs.Warnings.{warns}
+use Rattle.cascade.specs.Walks.{warns}
 use Rattle.cascade.proofs.Guards.{missing}
 use Rattle.cascade.proofs.warnings.warns_selector.Statement.{statement}
 use Rattle.cascade.proofs.warnings.warns_selector.Tie as tie

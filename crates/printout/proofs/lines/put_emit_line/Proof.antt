@@ -23,7 +23,7 @@ returns c =
     ⨾ s5 .put3 .ensures .written
     ⨾ s6 .put-decimal3 .ensures
     ⨾ s7 .put4 .ensures .written
-    ⨾ s8 .put-decimal4 .ensures
+    ⨾ s8 .put-warnings .ensures
     ⨾ c .put5 .ensures .written)
     (s1 .before .before .put-arg .given .0 .1)
 
