@@ -87,8 +87,34 @@ static int count_bits(uint64_t mask) {
     return bits;
 }
 
+/* What an op and its arguments may warn of: bit 0 the op, bit 1 a selector, bit 2 a modifier. */
+static unsigned causes(uint8_t op, uint8_t arg1, uint8_t arg2) {
+    unsigned no_formula = op == 0 || op == 17 || op > YUZUKNOLL_OP_DOTPRODUCT3;
+    unsigned no_selector = (arg1 & 15) > YUZUKNOLL_ARG_CONSTANT || (arg2 & 15) > YUZUKNOLL_ARG_CONSTANT;
+    unsigned no_modifier = ((arg1 | arg2) & 0xc0) != 0;
+    return no_formula | no_selector << 1 | no_modifier << 2;
+}
+
+/* No stage warns without a cause. With a texture nothing falls back, so colour's causes must warn there, unless it is a bump stage. */
+static void check_warnings(const yuzuknoll_key *key, const yuzuknoll_variant *variant, const yuzuknoll_result *result) {
+    int active = 1;
+    for (int i = 0; i < 8; i++) {
+        const yuzuknoll_stage *stage = &key->stages[i];
+        int bump = stage->colour_op == YUZUKNOLL_OP_BUMPENVMAP || stage->colour_op == YUZUKNOLL_OP_BUMPENVMAPLUMINANCE;
+        unsigned colour = causes(stage->colour_op, stage->colour_arg1, stage->colour_arg2);
+        unsigned alpha = causes(stage->alpha_op, stage->alpha_arg1, stage->alpha_arg2);
+        unsigned got = (result->op_warnings >> i & 1) | (result->selector_warnings >> i & 1) << 1 | (result->modifier_warnings >> i & 1) << 2;
+        active = active && stage->colour_op != YUZUKNOLL_OP_DISABLE;
+        must((got & ~(active ? colour | alpha : 0)) == 0, "a warning without a cause");
+        if (active && !bump && (stage->flags & YUZUKNOLL_STAGE_TEXTURED) != 0)
+            must((colour & ~got) == 0, "a cause without its warning");
+    }
+    must(result->alpha_warning == (variant->alpha_function > YUZUKNOLL_CMP_ALWAYS), "another warning of the alpha function");
+}
+
 /* What is said of every accepted emission, and of its text. */
-static void check_emitted(const yuzuknoll_result *result, const uint8_t *text, size_t room) {
+static void check_emitted(const yuzuknoll_key *key, const yuzuknoll_variant *variant, const yuzuknoll_result *result, const uint8_t *text,
+                          size_t room) {
     static const char front[] = "#include <metal_stdlib>\n", back[] = ";\n}\n";
     size_t length = result->length, ends = sizeof back - 1;
     must(length <= room && length <= YUZUKNOLL_TEXT_LENGTH, "a text longer than its buffer");
@@ -96,13 +122,18 @@ static void check_emitted(const yuzuknoll_result *result, const uint8_t *text, s
     must(memcmp(text, front, sizeof front - 1) == 0 && memcmp(text + length - ends, back, ends) == 0, "no whole text");
     for (size_t i = 0; i < length; i++)
         must(text[i] == '\n' || (text[i] >= ' ' && text[i] <= '~'), "a byte that is no text");
-    must(result->mask <= 255 && result->rows <= 9 && result->warning <= 15, "mask, rows or warning above their bound");
+    must(result->mask <= 255 && result->rows <= 9, "mask or rows above their bound");
+    must((result->op_warnings | result->selector_warnings | result->modifier_warnings) <= 255, "a mask of warnings above its bound");
     must((int)result->lookups <= count_bits(result->mask), "more lookups than textures");
     note(5, result->mask);
     note(6, result->rows);
     note(7, result->lookups);
-    note(8, result->warning);
+    note(8, result->op_warnings);
     note(9, result->length >> 5);
+    note(11, result->selector_warnings);
+    note(12, result->modifier_warnings);
+    note(13, result->alpha_warning);
+    check_warnings(key, variant, result);
 }
 
 /* yuzuknoll_read, to which the other calls are held. */
@@ -168,7 +199,7 @@ static uint64_t check_emit(struct lent *key, struct lent *variant, struct lent *
     uint64_t refusal = yuzuknoll_emit(key->bytes, variant->bytes, entry->bytes, out->bytes, room, report->bytes);
     if (refusal == YUZUKNOLL_ACCEPTED) {
         memcpy(result, report->bytes, sizeof *result);
-        check_emitted(result, out->bytes, room);
+        check_emitted(key->bytes, variant->bytes, result, out->bytes, room);
         expect(out, 0, out->bytes, result->length);
         expect(report, 0, result, sizeof *result);
     } else if (refusal == YUZUKNOLL_REFUSED_NO_ROOM && expected == YUZUKNOLL_ACCEPTED) {
@@ -259,10 +290,11 @@ static uint64_t emit_expected(const uint8_t *held, struct lent *out, yuzuknoll_r
     if (!holds(held, YUZUKNOLL_KEY_RECORD_LENGTH, YUZUKNOLL_KIND_KEY) || !holds(variant, YUZUKNOLL_VARIANT_RECORD_LENGTH, YUZUKNOLL_KIND_VARIANT) ||
         !holds(entry, YUZUKNOLL_ENTRY_RECORD_LENGTH, YUZUKNOLL_KIND_ENTRY))
         return YUZUKNOLL_REFUSED_EMIT_TOO_EARLY;
-    uint64_t refusal = yuzuknoll_emit((const yuzuknoll_key *)(held + 1), (const yuzuknoll_variant *)(variant + 1),
-                                      (const yuzuknoll_entry *)(entry + 1), text, out->length, result);
+    const yuzuknoll_key *key = (const yuzuknoll_key *)(held + 1);
+    const yuzuknoll_variant *body = (const yuzuknoll_variant *)(variant + 1);
+    uint64_t refusal = yuzuknoll_emit(key, body, (const yuzuknoll_entry *)(entry + 1), text, out->length, result);
     if (refusal == YUZUKNOLL_ACCEPTED) {
-        check_emitted(result, text, out->length);
+        check_emitted(key, body, result, text, out->length);
         expect(out, 0, text, result->length);
     } else {
         must(refusal == YUZUKNOLL_REFUSED_NO_ROOM, "emit: good values refused");

@@ -33,9 +33,9 @@
 extern "C" {
 #endif
 
-#define YUZUKNOLL_VERSION "0.6.0"
+#define YUZUKNOLL_VERSION "0.7.0"
 #define YUZUKNOLL_VERSION_MAJOR 0
-#define YUZUKNOLL_VERSION_MINOR 6
+#define YUZUKNOLL_VERSION_MINOR 7
 #define YUZUKNOLL_VERSION_PATCH 0
 
 /* ---- Refusals ---- */
@@ -57,8 +57,8 @@ extern "C" {
 
 /* The ops of a stage, with Direct3D's numbers (D3DTOP_...). In the formulas A is argument 1, B is argument 2, and t is
  * the texel of the stage. The results of ops 5 to 11, 15, 18 to 21 and 24 are clamped to the range from 0 to 1. Every
- * other number gives A, and YUZUKNOLL_WARNING_OP. If a stage has no texture, and an op reads YUZUKNOLL_ARG_TEXTURE, the
- * op gives YUZUKNOLL_ARG_CURRENT. */
+ * other number gives A, and an op warning. If a stage has no texture, and an op reads YUZUKNOLL_ARG_TEXTURE, the op gives
+ * YUZUKNOLL_ARG_CURRENT. */
 #define YUZUKNOLL_OP_DISABLE 1                    /* as colour op: the stages end here; as alpha op: alpha is kept */
 #define YUZUKNOLL_OP_SELECTARG1 2                 /* A */
 #define YUZUKNOLL_OP_SELECTARG2 3                 /* B */
@@ -84,8 +84,8 @@ extern "C" {
 #define YUZUKNOLL_OP_DOTPRODUCT3 24               /* 4 * dot(A - 0.5, B - 0.5); as colour op it sets alpha too */
 
 /* The arguments of an op, with Direct3D's numbers (D3DTA_...). Add a modifier, or both, to one of the first seven. The
- * numbers 7 to 15 in the low four bits mean white and give YUZUKNOLL_WARNING_SELECTOR. The bits 0x40 and 0x80 have no
- * effect and give YUZUKNOLL_WARNING_MODIFIER. */
+ * numbers 7 to 15 in the low four bits mean white and give a selector warning. The bits 0x40 and 0x80 have no effect and
+ * give a modifier warning. */
 #define YUZUKNOLL_ARG_DIFFUSE 0           /* the interpolated diffuse colour */
 #define YUZUKNOLL_ARG_CURRENT 1           /* the result of the stages before; at first the diffuse colour */
 #define YUZUKNOLL_ARG_TEXTURE 2           /* the texel of this stage */
@@ -112,13 +112,13 @@ typedef struct {
 typedef struct {
     yuzuknoll_stage stages[8];
     uint8_t specular;  /* 1 adds the specular colour behind the last stage, 0 does not. */
-    uint8_t projected; /* Bit i divides the texture coordinate of stage i by its last component. */
+    uint8_t projected; /* Bit i divides the texture coordinate of stage i by its w, and makes it 0 where w is 0. */
 } yuzuknoll_key;
 
 /* ---- Variants ---- */
 
 /* The comparisons of the alpha test, with Direct3D's numbers (D3DCMP_...). A pixel is kept if its alpha compares so with
- * the reference value. 0 tests nothing. Numbers above 8 keep every pixel and give YUZUKNOLL_WARNING_ALPHA_FUNCTION. */
+ * the reference value. 0 tests nothing. Numbers above 8 keep every pixel and give the alpha warning. */
 #define YUZUKNOLL_CMP_NEVER 1
 #define YUZUKNOLL_CMP_LESS 2
 #define YUZUKNOLL_CMP_EQUAL 3
@@ -128,7 +128,8 @@ typedef struct {
 #define YUZUKNOLL_CMP_GREATEREQUAL 7
 #define YUZUKNOLL_CMP_ALWAYS 8
 
-/* Fog modes, with Direct3D's numbers (D3DFOG_...). Numbers above 3 mean YUZUKNOLL_FOG_LINEAR. */
+/* Fog modes, with Direct3D's numbers (D3DFOG_...). As fog_table_mode, numbers above 3 mean YUZUKNOLL_FOG_LINEAR. As
+ * fog_mode, all numbers but 0 mean the same, since the factor of the vertices is computed elsewhere. */
 #define YUZUKNOLL_FOG_NONE 0
 #define YUZUKNOLL_FOG_EXP 1
 #define YUZUKNOLL_FOG_EXP2 2
@@ -211,19 +212,26 @@ uint64_t yuzuknoll_entry_possible(const uint64_t state[3]);
 /* No text has more bytes than this, so a buffer of this length takes every text. */
 #define YUZUKNOLL_TEXT_LENGTH 16384
 
-/* The warning of a result is the sum of these. A warning is no refusal: there is a text. */
-#define YUZUKNOLL_WARNING_OP 1             /* A stage has an op without a formula. Its argument 1 was used. */
-#define YUZUKNOLL_WARNING_SELECTOR 2       /* An argument has a selector from 7 to 15. White was used. */
-#define YUZUKNOLL_WARNING_MODIFIER 4       /* An argument has the bit 0x40 or 0x80. It was ignored. */
-#define YUZUKNOLL_WARNING_ALPHA_FUNCTION 8 /* The alpha function is above 8. Every pixel is kept. */
-
-/* What yuzuknoll_emit reports of a text. */
+/* What yuzuknoll_emit reports of a text. In the four masks bit i is for stage i, and the other bits are 0.
+ *
+ * A warning is no refusal: there is a text. One bit is for the colour and the alpha of its stage:
+ *
+ *     for (int stage = 0; stage < 8; stage++)
+ *         if (result.op_warnings >> stage & 1)
+ *             printf("stage %d has an unsupported op\n", stage);
+ *
+ * The op and both arguments of a stage warn in colour and in alpha, even if their result is not used. They do not warn in
+ * a stage that is not active or that displaces the next one's lookup, where an unbound texture makes the op give
+ * YUZUKNOLL_ARG_CURRENT, nor in alpha that is kept or that the colour op sets. */
 typedef struct {
-    uint64_t length;  /* The number of bytes of the text. */
-    uint64_t mask;    /* Bit i is set if stage i is active and has a texture. */
-    uint64_t rows;    /* The number of rows that the buffer ps_c must have: 0 to 9. */
-    uint64_t lookups; /* The number of texture lookups in the text: 0 to 8. */
-    uint64_t warning; /* The sum of YUZUKNOLL_WARNING_... */
+    uint64_t length;            /* The number of bytes of the text. */
+    uint64_t mask;              /* Mask of the stages that are active and have a texture. */
+    uint64_t rows;              /* The number of rows that the buffer ps_c must have: 0 to 9. */
+    uint64_t lookups;           /* The number of texture lookups in the text: 0 to 8. */
+    uint64_t op_warnings;       /* Mask of the stages with an op that has no formula. Its argument 1 was used. */
+    uint64_t selector_warnings; /* Mask of the stages with an argument's selector from 7 to 15. White was used. */
+    uint64_t modifier_warnings; /* Mask of the stages with an argument's bit 0x40 or 0x80. It was ignored. */
+    uint64_t alpha_warning;     /* 1 if the alpha function is above 8, else 0. Every pixel is then kept. */
 } yuzuknoll_result;
 
 /* Writes the Metal function of a key, a variant and an entry to the front of text, as ASCII without a zero at the end.
@@ -312,9 +320,9 @@ uint64_t yuzuknoll_apply(yuzuknoll_held *held, const uint8_t *bytes, size_t leng
 YUZUKNOLL_SIZE(yuzuknoll_key, 58);
 YUZUKNOLL_SIZE(yuzuknoll_variant, 19);
 YUZUKNOLL_SIZE(yuzuknoll_entry, 33);
-YUZUKNOLL_SIZE(yuzuknoll_result, 40);
+YUZUKNOLL_SIZE(yuzuknoll_result, 64);
 YUZUKNOLL_SIZE(yuzuknoll_record, 16);
-YUZUKNOLL_SIZE(yuzuknoll_applied, 56);
+YUZUKNOLL_SIZE(yuzuknoll_applied, 80);
 YUZUKNOLL_SIZE(yuzuknoll_held, YUZUKNOLL_HELD_LENGTH);
 #undef YUZUKNOLL_SIZE
 

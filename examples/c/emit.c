@@ -40,8 +40,9 @@ int main(void) {
         fprintf(stderr, "refused with %" PRIu64 "\n", refusal);
         return 1;
     }
-    printf("// mask %" PRIu64 ", rows %" PRIu64 ", lookups %" PRIu64 ", warning %" PRIu64 "\n", result.mask, result.rows, result.lookups,
-           result.warning);
+    printf("// mask %" PRIu64 ", rows %" PRIu64 ", lookups %" PRIu64, result.mask, result.rows, result.lookups);
+    printf(", warnings %" PRIu64 " %" PRIu64 " %" PRIu64 " %" PRIu64 "\n", result.op_warnings, result.selector_warnings, result.modifier_warnings,
+           result.alpha_warning);
     fwrite(text, 1, result.length, stdout);
     return 0;
 }

@@ -99,7 +99,10 @@ impl Comparison {
     pub const ALWAYS: Self = Self(8);
 }
 
-/// How fog grows with the distance, by Direct3D's number (`D3DFOG_..`). A number above 3 means [`FogMode::LINEAR`].
+/// How fog grows with the distance, by Direct3D's number (`D3DFOG_..`).
+///
+/// As `fog_table_mode` of a [`Variant`](crate::Variant), a number above 3 means [`FogMode::LINEAR`]. As `fog_mode`, all numbers but 0 mean the same, since
+/// the factor of the vertices is computed elsewhere.
 #[derive(Clone, Copy, Debug, Default, PartialEq, Eq, Hash)]
 #[repr(transparent)]
 pub struct FogMode(pub u8);
@@ -191,16 +194,4 @@ flags! {
     LOD_BIAS = 16;
     /// Table fog goes by the eye's W in place of the depth.
     FOG_SOURCE_W = 32;
-}
-
-/// What the warning of an [`Emission`](crate::Emission) is the sum of.
-pub mod warning {
-    /// A stage has an op without a formula. Its argument 1 was used.
-    pub const OP: u64 = 1;
-    /// An argument has a selector from 7 to 15. White was used.
-    pub const SELECTOR: u64 = 2;
-    /// An argument has the bit 0x40 or 0x80. It was ignored.
-    pub const MODIFIER: u64 = 4;
-    /// The alpha function is above 8. Every pixel is kept.
-    pub const ALPHA_FUNCTION: u64 = 8;
 }

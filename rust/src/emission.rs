@@ -1,30 +1,30 @@
 //! The text of a key, a variant and an entry.
 
-use crate::{Entry, Key, Refusal, Variant, raw, values::ascii};
+use crate::{Entry, Key, Refusal, StageMask, Variant, Warnings, raw, values::ascii};
 
 /// A text and what is known of it.
 #[derive(Clone, Copy, Debug, PartialEq, Eq)]
 pub struct Emission<'a> {
     /// The Metal function, in ASCII, at the front of the buffer that it was written to.
     pub text: &'a [u8],
-    /// Bit i is set if stage i is active and has a texture.
-    pub mask: u64,
+    /// The active stages that have a texture.
+    pub mask: StageMask,
     /// The number of rows that the buffer `ps_c` must have: 0 to 9.
     pub rows: u64,
     /// The number of texture lookups in the text: 0 to 8.
     pub lookups: u64,
-    /// The sum of what is in [`warning`](crate::warning).
-    pub warning: u64,
+    /// What was asked for that there is not, and at which stages.
+    pub warnings: Warnings,
 }
 
 impl<'a> Emission<'a> {
     pub(crate) fn of(emitted: &raw::Emitted, buffer: &'a [u8]) -> Self {
         Self {
             text: buffer.get(..emitted.length as usize).unwrap_or_default(),
-            mask: emitted.mask,
+            mask: StageMask::of_reported(emitted.mask),
             rows: emitted.rows,
             lookups: emitted.lookups,
-            warning: emitted.warning,
+            warnings: Warnings::of(emitted),
         }
     }
 

@@ -39,14 +39,16 @@ mod records;
 mod refusal;
 mod session;
 mod values;
+mod warnings;
 
-pub use codes::{Argument, Comparison, FogMode, Mask, Op, StageFlags, VariantFlags, warning};
+pub use codes::{Argument, Comparison, FogMode, Mask, Op, StageFlags, VariantFlags};
 pub use emission::{Emission, emit};
 pub use pass::EntryPass;
 pub use records::{Kind, Record};
 pub use refusal::Refusal;
 pub use session::{Applied, Session};
 pub use values::{Combiner, Entry, Key, STAGES, Stage, Variant};
+pub use warnings::{StageMask, Warning, Warnings};
 
 /// No text has more bytes than this, so a buffer of this length takes every text.
 pub const TEXT_LENGTH: usize = 16_384;

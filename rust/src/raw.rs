@@ -15,7 +15,10 @@ pub struct Emitted {
     pub mask: u64,
     pub rows: u64,
     pub lookups: u64,
-    pub warning: u64,
+    pub op_warnings: u64,
+    pub selector_warnings: u64,
+    pub modifier_warnings: u64,
+    pub alpha_warning: u64,
 }
 
 /// `yuzuknoll_record`: the kind of a record and the number of its bytes.

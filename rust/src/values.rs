@@ -66,7 +66,7 @@ pub struct Key {
     pub stages: [Stage; STAGES],
     /// Whether the specular colour is added behind the last stage.
     pub specular: bool,
-    /// Bit i divides the texture coordinate of stage i by its last component.
+    /// Bit i divides the texture coordinate of stage i by its w, and makes it 0 where w is 0.
     pub projected: u8,
 }
 

@@ -4,7 +4,7 @@ use std::{collections::BTreeMap, mem::offset_of};
 
 use yuzuknoll::{
     Argument, Combiner, Comparison, Entry, FogMode, Key, Kind, Op, Refusal, STAGES, Stage,
-    StageFlags, TEXT_LENGTH, VERSION, Variant, VariantFlags, raw, warning,
+    StageFlags, TEXT_LENGTH, VERSION, Variant, VariantFlags, raw,
 };
 
 const HEADER: &str = include_str!("../../include/yuzuknoll.h");
@@ -143,10 +143,6 @@ fn named() -> BTreeMap<&'static str, u64> {
         ("MASK_CUBE", mask(offset_of!(Variant, cube))),
         ("TEXT_LENGTH", TEXT_LENGTH as u64),
         ("HELD_LENGTH", raw::HELD_LENGTH as u64),
-        ("WARNING_OP", warning::OP),
-        ("WARNING_SELECTOR", warning::SELECTOR),
-        ("WARNING_MODIFIER", warning::MODIFIER),
-        ("WARNING_ALPHA_FUNCTION", warning::ALPHA_FUNCTION),
     ];
     let mut all = BTreeMap::from(plain);
     all.extend(ops.map(|(name, op)| (name, op.0.into())));
@@ -164,8 +160,8 @@ fn named() -> BTreeMap<&'static str, u64> {
 #[test]
 fn every_number_is_named_here_and_there() {
     let mut defined = defined();
-    assert_eq!(defined.remove("VERSION"), Some("\"0.6.0\""));
-    assert_eq!(VERSION, "0.6.0");
+    assert_eq!(defined.remove("VERSION"), Some("\"0.7.0\""));
+    assert_eq!(VERSION, "0.7.0");
     // the guard of the header
     assert_eq!(defined.remove("H"), None);
     let numbers: BTreeMap<&str, u64> = defined
@@ -276,7 +272,8 @@ fn every_struct_has_the_same_layout() {
         (
             "yuzuknoll_result",
             size_of::<raw::Emitted>(),
-            fields!(raw::Emitted: length = "length", mask = "mask", rows = "rows", lookups = "lookups", warning = "warning"),
+            fields!(raw::Emitted: length = "length", mask = "mask", rows = "rows", lookups = "lookups", op_warnings = "op_warnings",
+                selector_warnings = "selector_warnings", modifier_warnings = "modifier_warnings", alpha_warning = "alpha_warning"),
         ),
         (
             "yuzuknoll_record",
@@ -322,9 +319,9 @@ fn sizes_are_asserted() {
             ("yuzuknoll_key", 58),
             ("yuzuknoll_variant", 19),
             ("yuzuknoll_entry", 33),
-            ("yuzuknoll_result", 40),
+            ("yuzuknoll_result", 64),
             ("yuzuknoll_record", 16),
-            ("yuzuknoll_applied", 56),
+            ("yuzuknoll_applied", 80),
             ("yuzuknoll_held", 113),
         ]
     );

@@ -2,7 +2,8 @@
 
 use yuzuknoll::{
     Applied, Argument, Combiner, Comparison, Entry, EntryPass, FogMode, Key, Kind, Mask, Op,
-    Record, Refusal, Session, Stage, StageFlags, TEXT_LENGTH, Variant, VariantFlags, emit, raw,
+    Record, Refusal, Session, Stage, StageFlags, StageMask, TEXT_LENGTH, Variant, VariantFlags,
+    Warnings, emit, raw,
 };
 
 /// MODULATE of texture and diffuse.
@@ -139,15 +140,18 @@ const EMITTED: raw::Emitted = raw::Emitted {
     mask: 102,
     rows: 103,
     lookups: 104,
-    warning: 105,
+    op_warnings: 105,
+    selector_warnings: 106,
+    modifier_warnings: 107,
+    alpha_warning: 108,
 };
 const RECORD: raw::Record = raw::Record {
-    kind: 106,
-    taken: 107,
+    kind: 109,
+    taken: 110,
 };
 const APPLIED: raw::Applied = raw::Applied {
-    kind: 108,
-    taken: 109,
+    kind: 111,
+    taken: 112,
     result: EMITTED,
 };
 
@@ -160,9 +164,9 @@ fn emits_into_buffers_that_hold_the_text() {
             emission.mask,
             emission.rows,
             emission.lookups,
-            emission.warning
+            emission.warnings
         ),
-        (1, 0, 1, 0)
+        (StageMask::from_bits(1), 0, 1, Warnings::NONE)
     );
     assert!(
         emission

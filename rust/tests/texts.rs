@@ -2,7 +2,7 @@
 
 use yuzuknoll::{
     Argument, Combiner, Comparison, Emission, Entry, FogMode, Key, Mask, Op, Stage, StageFlags,
-    TEXT_LENGTH, Variant, VariantFlags, emit, warning,
+    StageMask, TEXT_LENGTH, Variant, VariantFlags, Warnings, emit,
 };
 
 const SPECULAR: Argument = Argument::SPECULAR;
@@ -11,10 +11,10 @@ const TFACTOR: Argument = Argument::TFACTOR;
 /// The body of the text, without the header and the name that every text has.
 struct Text {
     whole: String,
-    mask: u64,
+    mask: u8,
     rows: u64,
     lookups: u64,
-    warning: u64,
+    warnings: Warnings,
 }
 
 impl Text {
@@ -26,7 +26,7 @@ impl Text {
             mask,
             rows,
             lookups,
-            warning,
+            warnings,
             ..
         } = emission;
         let text = emission.as_str();
@@ -34,10 +34,10 @@ impl Text {
         assert!(text.ends_with(";\n}\n"));
         Self {
             whole: text.to_owned(),
-            mask,
+            mask: mask.bits(),
             rows,
             lookups,
-            warning,
+            warnings,
         }
     }
 
@@ -128,7 +128,7 @@ fn ops_with_a_formula() {
         let formula = formula.replace('A', "in.color1").replace('B', "ps_c[0]");
         let text = text(&[colour(op, SPECULAR, TFACTOR, StageFlags::TEXTURED)]);
         text.has(&assigned(&formula));
-        assert_eq!((text.mask, text.warning), (1, 0));
+        assert_eq!((text.mask, text.warnings), (1, Warnings::NONE));
     }
 }
 
@@ -138,7 +138,7 @@ fn a_dot_product_sets_alpha_too() {
     text.has(
         "    current = float4(saturate(4.0 * dot((in.color1).rgb - 0.5, (ps_c[0]).rgb - 0.5)));\n",
     );
-    assert_eq!(text.warning, 0);
+    assert_eq!(text.warnings, Warnings::NONE);
 }
 
 #[test]
@@ -162,7 +162,19 @@ fn bump_stages_displace_the_next_lookup() {
         text.has("    float4 t1 = s1.sample(samp1, bc1.xy);\n");
         let scales = text.whole.contains("    t1 *= saturate(");
         assert_eq!(scales, scaled);
-        assert_eq!((text.mask, text.lookups, text.warning), (3, 2, 0));
+        assert_eq!((text.mask, text.lookups), (3, 2));
+        assert_eq!(text.warnings, Warnings::NONE);
+    }
+}
+
+/// Warnings of stage 0: of its op, a selector, a modifier.
+fn of_stage_0(warns: [bool; 3]) -> Warnings {
+    let [op, selector, modifier] = warns.map(|warns| StageMask::from_bits(warns.into()));
+    Warnings {
+        op,
+        selector,
+        modifier,
+        alpha: false,
     }
 }
 
@@ -171,7 +183,7 @@ fn an_op_without_a_name_gives_argument_1_and_a_warning() {
     for op in [0, 17, 25, 26, 27, 255] {
         let text = text(&[colour(Op(op), SPECULAR, TFACTOR, StageFlags::NONE)]);
         text.has(&assigned("in.color1"));
-        assert_eq!(text.warning, warning::OP);
+        assert_eq!(text.warnings, of_stage_0([true, false, false]));
     }
 }
 
@@ -204,7 +216,7 @@ fn arguments_select_their_colours() {
                 StageFlags::TEXTURED,
             )]);
             text.has(&assigned(&source));
-            assert_eq!(text.warning, 0);
+            assert_eq!(text.warnings, Warnings::NONE);
         }
     }
 }
@@ -219,7 +231,7 @@ fn arguments_without_a_name_give_a_warning() {
             StageFlags::NONE,
         )]);
         text.has(&assigned("float4(1.0)"));
-        assert_eq!(text.warning, warning::SELECTOR);
+        assert_eq!(text.warnings, of_stage_0([false, true, false]));
     }
     for bits in [0x40, 0x80, 0xc0] {
         let text = text(&[colour(
@@ -229,7 +241,7 @@ fn arguments_without_a_name_give_a_warning() {
             StageFlags::NONE,
         )]);
         text.has(&assigned("in.color0"));
-        assert_eq!(text.warning, warning::MODIFIER);
+        assert_eq!(text.warnings, of_stage_0([false, false, true]));
     }
 }
 
@@ -311,9 +323,11 @@ fn comparisons_of_the_alpha_test() {
         };
         let text = text_with(&[], variant);
         text.has(&format!("    if (!({test})) discard_fragment();\n"));
-        let above = alpha_function.0 > Comparison::ALWAYS.0;
-        let expected = if above { warning::ALPHA_FUNCTION } else { 0 };
-        assert_eq!(text.warning, expected);
+        let expected = Warnings {
+            alpha: alpha_function.0 > Comparison::ALWAYS.0,
+            ..Warnings::NONE
+        };
+        assert_eq!(text.warnings, expected);
     }
     for alpha_function in [Comparison::NONE, Comparison::ALWAYS] {
         let variant = Variant {

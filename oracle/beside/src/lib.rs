@@ -81,7 +81,10 @@ impl Report for Emitted {
             mask: filling(from, 3),
             rows: filling(from, 4),
             lookups: filling(from, 5),
-            warning: filling(from, 6),
+            op_warnings: filling(from, 6),
+            selector_warnings: filling(from, 7),
+            modifier_warnings: filling(from, 8),
+            alpha_warning: filling(from, 9),
         }
     }
 }
@@ -113,7 +116,10 @@ pub fn emitted(o: &Outcome) -> Emitted {
         mask: o.mask.into(),
         rows: o.rows.into(),
         lookups: o.lookups.into(),
-        warning: o.warning.into(),
+        op_warnings: o.warnings.op.into(),
+        selector_warnings: o.warnings.selector.into(),
+        modifier_warnings: o.warnings.modifier.into(),
+        alpha_warning: o.warnings.alpha.into(),
     }
 }
 

@@ -11,6 +11,7 @@ use crate::{
         CUBE, DEPTH, DEPTH_FETCH, FETCH4, FETCH4_ALPHA, FLAT_SHADE, FOG_SOURCE_W, Key, LOD_BIAS,
         POINT_SPRITE, RAW_DEPTH_RED, SAMPLE_MASK, SRGB_WRITE, Stage, Triple, VOLUME, Variant,
     },
+    warnings::Warnings,
 };
 
 const FLAGS: [(u8, VariantFlags); 6] = [
@@ -29,7 +30,7 @@ pub struct Outcome {
     pub mask: u16,
     pub rows: u8,
     pub lookups: u8,
-    pub warning: u8,
+    pub warnings: Warnings,
 }
 
 /// Emits a triple that is free of causes.
@@ -39,16 +40,21 @@ pub struct Outcome {
 #[must_use]
 pub fn emit(triple: &Triple) -> Outcome {
     let key = rust_key(&triple.key);
-    mtld3d_shared::take_warning();
+    mtld3d_shared::take_logged();
     let text = emit_ps_ff_named(&key, rust_variant(&triple.variant), triple.entry.name());
-    let warning = mtld3d_shared::take_warning();
-    assert!(warning < mtld3d_shared::UNNUMBERED, "unnumbered warning");
+    let logged = mtld3d_shared::take_logged();
+    assert!(!logged.unnumbered, "unnumbered warning");
     let lookups = names::declared_texels(&text).len();
     Outcome {
         mask: key.sampled_stage_mask(),
         rows: key.constant_rows(),
         lookups: u8::try_from(lookups).expect("at most eight"),
-        warning,
+        warnings: Warnings {
+            op: logged.op,
+            selector: logged.selector,
+            modifier: logged.modifier,
+            alpha: logged.alpha,
+        },
         text,
     }
 }

@@ -9,8 +9,10 @@ pub mod names;
 pub mod program;
 pub mod records;
 pub mod rules;
+pub mod warnings;
 pub mod words;
 pub mod worked;
 
 pub use emission::{Outcome, emit};
 pub use program::{INPUT_CAP, TEXT_CAP, program};
+pub use warnings::Warnings;

@@ -156,12 +156,12 @@ fn print_outcome(out: &mut Vec<u8>, o: &Outcome) {
         mask,
         rows,
         lookups,
-        warning,
+        warnings,
         text,
     } = o;
     print(
         out,
-        format_args!("emit {mask} {rows} {lookups} {warning}\n{text}"),
+        format_args!("emit {mask} {rows} {lookups} {warnings}\n{text}"),
     );
 }
 

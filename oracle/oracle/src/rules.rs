@@ -1,8 +1,11 @@
-//! 01's rules about mask, rows, lookups and warning, read on key and variant alone.
+//! 01's rules about mask, rows, lookups and warnings, read on key and variant alone; warnings by stage, as 02 has them.
 //!
 //! Nothing here looks at the Rust or at a text, so that each can be compared with the other.
 
-use crate::records::{Combiner, Key, Stage, Variant};
+use crate::{
+    records::{Combiner, Key, Stage, Variant},
+    warnings::Warnings,
+};
 
 const CURRENT: u8 = 1;
 const TEXTURE: u8 = 2;
@@ -73,15 +76,12 @@ impl Combiner {
             .any(|a| selector(a) == wanted)
     }
 
-    /// The warning of an expression outside a fallback.
-    fn warning(self) -> u8 {
-        let argument = |a: u8| {
-            let unknown_selector = if selector(a) > CONSTANT { 2 } else { 0 };
-            let unknown_modifier = if a & 0xc0 != 0 { 4 } else { 0 };
-            unknown_selector | unknown_modifier
-        };
-        let op = u8::from(!has_text(self.op));
-        op | argument(self.arg1) | argument(self.arg2)
+    fn has_unknown_selector(self) -> bool {
+        selector(self.arg1) > CONSTANT || selector(self.arg2) > CONSTANT
+    }
+
+    fn has_unknown_modifier(self) -> bool {
+        (self.arg1 | self.arg2) & 0xc0 != 0
     }
 }
 
@@ -114,11 +114,11 @@ impl Stage {
         color.is_some_and(reads) || alpha.is_some_and(reads)
     }
 
-    fn warning(self) -> u8 {
-        let resolved = |c: &Combiner| !c.falls_back(self.textured());
+    /// The combiners whose arguments are resolved and whose op is applied, also where their result is dropped: those outside a fallback.
+    fn resolved(self) -> impl Iterator<Item = Combiner> {
         let (color, alpha) = self.expressions();
-        let warnings = [color, alpha].map(|c| c.filter(resolved).map_or(0, Combiner::warning));
-        warnings[0] | warnings[1]
+        let expressions = color.into_iter().chain(alpha);
+        expressions.filter(move |c| !c.falls_back(self.textured()))
     }
 
     fn has_line(self, temp_live: bool) -> bool {
@@ -174,8 +174,17 @@ pub fn marks(key: &Key) -> u16 {
 }
 
 #[must_use]
-pub fn warning(key: &Key, variant: &Variant) -> u8 {
-    let unknown_function = if variant.alpha_func > 8 { 8 } else { 0 };
-    let stages = active(key).iter().map(|stage| stage.warning());
-    stages.fold(unknown_function, |all, warning| all | warning)
+pub fn warnings(key: &Key, variant: &Variant) -> Warnings {
+    let mut warnings = Warnings {
+        alpha: variant.alpha_func > 8,
+        ..Warnings::default()
+    };
+    for (i, stage) in active(key).iter().enumerate() {
+        for combiner in stage.resolved() {
+            warnings.op |= u8::from(!has_text(combiner.op)) << i;
+            warnings.selector |= u8::from(combiner.has_unknown_selector()) << i;
+            warnings.modifier |= u8::from(combiner.has_unknown_modifier()) << i;
+        }
+    }
+    warnings
 }

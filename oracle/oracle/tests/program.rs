@@ -14,8 +14,8 @@ fn printed(input: &[u8]) -> String {
 
 fn emitted(triple: &Triple) -> String {
     let o = emit(triple);
-    let (mask, rows, lookups, warning) = (o.mask, o.rows, o.lookups, o.warning);
-    format!("emit {mask} {rows} {lookups} {warning}\n{}", o.text)
+    let (mask, rows, lookups, warnings) = (o.mask, o.rows, o.lookups, o.warnings);
+    format!("emit {mask} {rows} {lookups} {warnings}\n{}", o.text)
 }
 
 fn key_body(alter: impl Fn(&mut [u8])) -> Vec<u8> {

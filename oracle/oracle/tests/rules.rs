@@ -20,8 +20,8 @@ fn check(triple: &Triple) {
     assert_eq!(usize::from(outcome.lookups), declared.len(), "{triple:?}");
     assert_eq!(rules::mask(key), outcome.mask, "mask of {triple:?}");
     assert_eq!(rules::rows(key), outcome.rows, "rows of {triple:?}");
-    let warning = rules::warning(key, variant);
-    assert_eq!(warning, outcome.warning, "warning of {triple:?}");
+    let warnings = rules::warnings(key, variant);
+    assert_eq!(warnings, outcome.warnings, "warnings of {triple:?}");
 }
 
 #[test]
@@ -62,10 +62,14 @@ fn random_triples_are_varied() {
     for rows in 0..=9 {
         assert!(share(&|t| rules::rows(&t.key) == rows) > 50, "{rows} rows");
     }
-    for warning in [1, 2, 4, 8] {
-        let warns = |t: &Triple| rules::warning(&t.key, &t.variant) & warning != 0;
-        assert!(share(&warns) > 20, "warning {warning}");
+    let warnings = |t: &Triple| rules::warnings(&t.key, &t.variant);
+    for cause in 0..3 {
+        for stage in 0..8 {
+            let warns = |t: &Triple| warnings(t).numbers()[cause] >> stage & 1 != 0;
+            assert!(share(&warns) > 20, "cause {cause}, stage {stage}");
+        }
     }
+    assert!(share(&|t| warnings(t).alpha) > 20);
     assert!(share(&|t| emit(t).text.contains("float4 temp")) > 500);
     assert!(share(&|t| emit(t).text.contains("bump_env")) > 300);
     assert!(triples.iter().all(|t| t.cause().is_none()));

@@ -1,6 +1,6 @@
 //! 01's printed example and worked stages, against the Rust.
 
-use oraclelib::{Outcome, TEXT_CAP, emit, program, worked};
+use oraclelib::{Outcome, TEXT_CAP, Warnings, emit, program, worked};
 
 fn lines(outcome: &Outcome) -> Vec<&str> {
     outcome.text.lines().map(str::trim_start).collect()
@@ -27,7 +27,7 @@ fn colour_only(expression: &str) -> String {
 #[test]
 fn z1_prints_the_example() {
     let mut expected = String::from(
-        "emit 0 0 0 0
+        "emit 0 0 0 0 0 0 0
 #include <metal_stdlib>
 using namespace metal;
 
@@ -88,7 +88,7 @@ fn z3_falls_back_where_the_texture_is_read() {
 fn z4_reads_the_constant_of_its_stage() {
     let outcome = emit(&worked::z4());
     assert!(has_line(&outcome, &colour_only("(1.0 - ps_c[3].aaaa)")));
-    assert_eq!((outcome.rows, outcome.warning), (4, 0));
+    assert_eq!((outcome.rows, outcome.warnings), (4, Warnings::default()));
 }
 
 #[test]
@@ -96,9 +96,9 @@ fn z5_keeps_temp_only_for_a_reader() {
     let [premodulate, modulate] = worked::z5().map(|t| emit(&t));
     let declaration = "float4 temp = float4(0.0);";
     assert!(!has_line(&premodulate, declaration));
-    assert_eq!(premodulate.warning, 1);
+    assert_eq!(premodulate.warnings.numbers(), [1, 0, 0, 0]);
     assert!(has_line(&modulate, declaration));
-    assert_eq!(modulate.warning, 0);
+    assert_eq!(modulate.warnings, Warnings::default());
 }
 
 #[test]
@@ -119,9 +119,9 @@ fn z7_scales_by_the_luminance_offset() {
 fn z8_tests_alpha_above_function_8() {
     let [always, unknown] = worked::z8().map(|t| emit(&t));
     assert!(!always.text.contains("discard_fragment"));
-    assert_eq!(always.warning, 0);
+    assert_eq!(always.warnings, Warnings::default());
     assert!(has_line(&unknown, "if (!(true)) discard_fragment();"));
-    assert_eq!(unknown.warning, 8);
+    assert_eq!(unknown.warnings.numbers(), [0, 0, 0, 1]);
 }
 
 #[test]

@@ -28,9 +28,16 @@ fn main() -> Result<(), Refusal> {
 
     let mut buffer = [0; TEXT_LENGTH];
     let emission = emit(&key, &variant, &entry, &mut buffer)?;
+    let warnings = emission.warnings;
     println!(
-        "// mask {}, rows {}, lookups {}, warning {}",
-        emission.mask, emission.rows, emission.lookups, emission.warning
+        "// mask {}, rows {}, lookups {}, warnings {} {} {} {}",
+        emission.mask.bits(),
+        emission.rows,
+        emission.lookups,
+        warnings.op.bits(),
+        warnings.selector.bits(),
+        warnings.modifier.bits(),
+        u8::from(warnings.alpha)
     );
     print!("{}", emission.as_str());
     Ok(())

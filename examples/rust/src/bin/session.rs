@@ -1,4 +1,4 @@
-//! From records to texts: takes a stream of records, as a file or a connection would give it, and reports each text.
+//! From records to texts: takes a stream of records, as a file or a connection would give it, and reports each text and its warnings.
 
 use yuzuknoll::{
     Applied, Argument, Combiner, Entry, FogMode, Key, Op, Record, Refusal, Session, Stage,
@@ -14,7 +14,19 @@ fn key(op: Op) -> Key {
     }])
 }
 
-/// A text of the plain key, one of the lit key with the same variant and entry, and a variant that is cut short.
+/// One from elsewhere: PREMODULATE, which has no formula here, and an argument that there is not.
+fn foreign_key() -> Key {
+    let stage = |op, arg2| Stage {
+        colour: Combiner::new(op, Argument::CURRENT, arg2),
+        ..Stage::DISABLED
+    };
+    let mut key = key(Op::SELECTARG1);
+    key.stages[1] = stage(Op(17), Argument::DIFFUSE);
+    key.stages[2] = stage(Op::ADD, Argument(9));
+    key
+}
+
+/// A text of the plain key, those of the other keys with the same variant and entry, and a variant that is cut short.
 fn make_records() -> Result<Vec<u8>, Refusal> {
     let foggy = Variant {
         fog_table_mode: FogMode::EXP,
@@ -27,6 +39,8 @@ fn make_records() -> Result<Vec<u8>, Refusal> {
         Record::Entry(Entry::new("mirror")?),
         Record::Emit,
         Record::Key(key(Op::MODULATE)),
+        Record::Emit,
+        Record::Key(foreign_key()),
         Record::Emit,
         Record::Variant(foggy),
     ];
@@ -46,11 +60,13 @@ fn main() -> Result<(), Refusal> {
             Ok(Applied::Replaced) => {
                 println!("a record of kind {kind}, {} bytes", before - rest.len());
             }
-            Ok(Applied::Text(emission)) => println!(
-                "a text of {} bytes with {} lookup",
-                emission.text.len(),
-                emission.lookups
-            ),
+            Ok(Applied::Text(emission)) => {
+                let (length, lookups) = (emission.text.len(), emission.lookups);
+                println!("a text of {length} bytes with {lookups} lookup");
+                for warning in emission.warnings.iter() {
+                    println!("  {warning}");
+                }
+            }
             Err(refusal) => {
                 let at = records.len() - rest.len();
                 println!("refused with {} at {at}", refusal.number());

@@ -271,11 +271,16 @@ enum Wrong {
     ReportsTheRoom,
     ReportsTheMaskAsLookups,
     DropsTheRows,
-    DropsTheWarning,
+    DropsTheOpWarnings,
+    DropsTheAlphaWarning,
+    MovesTheWarnings,
+    SwapsSelectorAndModifier,
+    ReportsTheFirstStageOnly,
+    ReportsTheSum,
 }
 
 impl Wrong {
-    const ALL: [Self; 17] = [
+    const ALL: [Self; 22] = [
         Self::Answers4Before3,
         Self::Answers5Before4,
         Self::Answers6Before5,
@@ -292,7 +297,12 @@ impl Wrong {
         Self::ReportsTheRoom,
         Self::ReportsTheMaskAsLookups,
         Self::DropsTheRows,
-        Self::DropsTheWarning,
+        Self::DropsTheOpWarnings,
+        Self::DropsTheAlphaWarning,
+        Self::MovesTheWarnings,
+        Self::SwapsSelectorAndModifier,
+        Self::ReportsTheFirstStageOnly,
+        Self::ReportsTheSum,
     ];
 }
 
@@ -331,7 +341,7 @@ impl Emit for Wrong {
             Self::Answers8First if number != 0 && text.is_empty() => return 8,
             Self::RefusesAnExactFit if number == 0 && text.len() == length => return 8,
             Self::WritesOnRefusal if number != 0 => spoil(text.last_mut()),
-            Self::ReportsOnRefusal if number != 0 => wanted.warning = 0,
+            Self::ReportsOnRefusal if number != 0 => wanted.alpha_warning = 0,
             _ => {}
         }
         if number == 0 {
@@ -341,12 +351,46 @@ impl Emit for Wrong {
                 Self::ReportsTheRoom => wanted.length = text.len() as u64,
                 Self::ReportsTheMaskAsLookups => wanted.lookups = wanted.mask.count_ones().into(),
                 Self::DropsTheRows => wanted.rows = 0,
-                Self::DropsTheWarning => wanted.warning = 0,
-                _ => {}
+                _ => self.alter_warnings(&mut wanted),
             }
         }
         *result = wanted;
         number
+    }
+}
+
+impl Wrong {
+    fn alter_warnings(self, wanted: &mut Emitted) {
+        let masks = [
+            &mut wanted.op_warnings,
+            &mut wanted.selector_warnings,
+            &mut wanted.modifier_warnings,
+        ];
+        match self {
+            Self::DropsTheOpWarnings => wanted.op_warnings = 0,
+            Self::DropsTheAlphaWarning => wanted.alpha_warning = 0,
+            Self::MovesTheWarnings => {
+                for mask in masks {
+                    *mask = *mask << 1 & 0xff;
+                }
+            }
+            Self::SwapsSelectorAndModifier => {
+                std::mem::swap(&mut wanted.selector_warnings, &mut wanted.modifier_warnings);
+            }
+            Self::ReportsTheFirstStageOnly => {
+                for mask in masks {
+                    *mask &= mask.wrapping_neg();
+                }
+            }
+            // 01's numbers, in the place of masks and of the yes or no
+            Self::ReportsTheSum => {
+                for (mask, cause) in masks.into_iter().zip([1, 2, 4]) {
+                    *mask = if *mask == 0 { 0 } else { cause };
+                }
+                wanted.alpha_warning *= 8;
+            }
+            _ => {}
+        }
     }
 }
 

@@ -1,9 +1,9 @@
 //! `bulk`: answers to many triples on standard input, each the bodies of a key, a variant and an
 //! entry, 110 bytes.
 //!
-//! An answer is eight bytes: the text's length and the mask, two bytes each, low byte first, then
-//! rows, lookups, warning and cause; behind them the text. With a cause other than 0 (the first of
-//! 3, 4, 5 and 6) all else is 0 and there is no text.
+//! An answer is eleven bytes: the text's length and the mask, two bytes each, low byte first, then
+//! rows, lookups, the four numbers of the warnings, and the cause; behind them the text. With a
+//! cause other than 0 (the first of 3, 4, 5, 6 and 13) all else is 0 and there is no text.
 //!
 //! `--nums`: without the texts. `--bench N`: instead of answers, the time per emission over N
 //! passes.
@@ -47,14 +47,17 @@ fn answer(triples: impl Iterator<Item = Triple>, texts: bool) -> std::io::Result
     let mut out = std::io::BufWriter::with_capacity(1 << 20, std::io::stdout().lock());
     for triple in triples {
         if let Some(cause) = triple.cause() {
-            out.write_all(&[0, 0, 0, 0, 0, 0, 0, cause.number()])?;
+            out.write_all(&[0; 10])?;
+            out.write_all(&[cause.number()])?;
             continue;
         }
         let o = emit(&triple);
         let length = u16::try_from(o.text.len()).expect("at most 16,384 bytes");
         out.write_all(&length.to_le_bytes())?;
         out.write_all(&o.mask.to_le_bytes())?;
-        out.write_all(&[o.rows, o.lookups, o.warning, 0])?;
+        out.write_all(&[o.rows, o.lookups])?;
+        out.write_all(&o.warnings.numbers())?;
+        out.write_all(&[0])?;
         if texts {
             out.write_all(o.text.as_bytes())?;
         }

@@ -35,6 +35,7 @@ pub fn systematic() -> Vec<Triple> {
         stage_numbers(),
         constants(),
         disabled_stages(),
+        warnings(),
         bump_chains(),
     ];
     let keys = keys.concat().into_iter().map(Triple::plain);
@@ -163,6 +164,40 @@ fn disabled_stages() -> Vec<Key> {
         key
     })
     .collect()
+}
+
+/// Causes of warnings at each stage: in colour; in alpha; and in alpha beside op 24, which sets alpha unless it falls back. Some of these do not warn.
+fn warnings() -> Vec<Key> {
+    const CAUSES: [Combiner; 7] = [
+        Combiner::new(17, 0, 4),
+        Combiner::new(4, 7, 0),
+        Combiner::new(4, 0, 0x40),
+        // The argument that the op discards is resolved too.
+        Combiner::new(2, 0, 0x8f),
+        Combiner::new(0, 0x47, 0x8f),
+        // Without a texture, a fallback.
+        Combiner::new(0, 0x42, 0x8f),
+        // A bump stage in colour, kept in alpha.
+        Combiner::new(22, 0x47, 0x8f),
+    ];
+    let mut keys = Vec::new();
+    for number in 0..STAGES {
+        for cause in CAUSES {
+            for flags in 0..=TEXTURED | TO_TEMP {
+                let [color, alpha] = in_both_roles(cause, flags);
+                let beside = [0, 2].map(|arg1| Stage {
+                    color: Combiner::new(24, arg1, 0),
+                    ..alpha
+                });
+                for stage in [color, alpha].into_iter().chain(beside) {
+                    let mut key = Key::of(&[PLAIN; STAGES]);
+                    key.stages[number] = stage;
+                    keys.push(key);
+                }
+            }
+        }
+    }
+    keys
 }
 
 fn bump_stage(op: u8, textured: bool) -> Stage {

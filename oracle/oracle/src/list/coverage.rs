@@ -7,7 +7,7 @@ use crate::{
     generate::{MODIFIERS, TEXT_OPS},
     records::{
         CUBE, Combiner, DEPTH, DEPTH_FETCH, FETCH4, FETCH4_ALPHA, Kind, LOD_BIAS, RAW_DEPTH_RED,
-        Refusal, Stage, Triple, VOLUME, Variant,
+        Refusal, STAGES, Stage, Triple, VOLUME, Variant,
     },
     rules,
 };
@@ -281,13 +281,35 @@ fn settings(table: &mut Table, triples: &[Triple]) {
     );
     table.seen("rows", 10, triples.iter().map(|t| rules::rows(&t.key)));
     table.seen("specular add", 2, triples.iter().map(|t| t.key.specular));
-    table.seen(
-        "warnings",
-        16,
-        triples.iter().map(|t| rules::warning(&t.key, &t.variant)),
-    );
+    warnings(table, triples);
     for length in [1, 32] {
         let entries = triples.iter().filter(|t| t.entry.length == length);
         table.line(&format!("entries of length {length}"), entries.count());
     }
+}
+
+fn warnings(table: &mut Table, triples: &[Triple]) {
+    let all = || triples.iter().map(|t| rules::warnings(&t.key, &t.variant));
+    table.seen(
+        "warnings: which of the four causes",
+        16,
+        all().map(|w| w.numbers().map(|number| number != 0)),
+    );
+    table.seen(
+        "warnings: cause with a mask, stage",
+        3 * STAGES,
+        all().flat_map(|w| {
+            let bits = (0..3).flat_map(|cause| (0..STAGES).map(move |stage| (cause, stage)));
+            bits.filter(move |&(cause, stage)| has_bit(w.numbers()[cause].into(), stage))
+        }),
+    );
+    let alone = |mask: u8| mask.is_power_of_two().then_some(mask);
+    table.seen(
+        "warnings: cause with a mask, its only stage",
+        3 * STAGES,
+        all().flat_map(|w| {
+            let masks = [w.op, w.selector, w.modifier].into_iter().enumerate();
+            masks.filter_map(move |(cause, mask)| Some((cause, alone(mask)?)))
+        }),
+    );
 }

@@ -14,6 +14,35 @@ use crate::{
 const PRINTED: usize = 16_000;
 const ALPHA_FUNCS: [u8; 11] = [0, 1, 2, 3, 4, 5, 6, 7, 8, 9, 255];
 
+/// An op without a text, and arguments with an unknown selector or modifier.
+const BAD: Combiner = Combiner::new(0, 0x47, 0x8f);
+/// The same where the first argument is an unbound texture.
+const BAD_FALLBACK: Combiner = Combiner::new(0, 0x42, 0x8f);
+
+const SELECT: Combiner = Combiner::new(2, 0, 0);
+const PLAIN: Stage = stage(SELECT, SELECT, 0);
+
+const fn stage(color: Combiner, alpha: Combiner, flags: u8) -> Stage {
+    Stage {
+        color,
+        alpha,
+        flags,
+    }
+}
+
+/// A bump stage; a colour fallback with alpha kept; alpha from colour; alpha kept by a bump op; an alpha fallback; a result in a dead TEMP, which warns;
+/// alpha beside a fallback of op 24, which warns; and a stage behind the cascade's end.
+const FULL_OF_CAUSES: [Stage; STAGES] = [
+    stage(Combiner::new(22, BAD.arg1, BAD.arg2), BAD, 0),
+    stage(BAD_FALLBACK, Combiner::new(1, BAD.arg1, BAD.arg2), 0),
+    stage(Combiner::new(24, 0, 0), BAD, 0),
+    stage(SELECT, Combiner::new(22, BAD.arg1, BAD.arg2), 0),
+    stage(SELECT, BAD_FALLBACK, 0),
+    stage(BAD, SELECT, TO_TEMP),
+    stage(Combiner::new(24, 2, BAD.arg2), BAD, 0),
+    stage(Combiner::new(1, BAD.arg1, BAD.arg2), BAD, TEXTURED),
+];
+
 pub fn inputs(rng: &mut Rng) -> Vec<Vec<u8>> {
     let mut maker = Maker { rng, made: 0 };
     let sections = [
@@ -22,6 +51,7 @@ pub fn inputs(rng: &mut Rng) -> Vec<Vec<u8>> {
         maker.bump_chains(),
         maker.lookups(),
         maker.ends(),
+        maker.warnings(),
         maker.random(),
         maker.everyday(),
     ];
@@ -220,6 +250,41 @@ impl Maker<'_> {
             })
             .collect();
         self.triples(&keys)
+    }
+
+    /// Each cause alone in its mask, at each stage, in colour; each choice of causes in alpha, beside a bad alpha function; and stages full of causes,
+    /// some of which do not warn.
+    fn warnings(&mut self) -> Vec<Triple> {
+        const CAUSES: [Combiner; 3] = [
+            Combiner::new(17, 0, 0),
+            Combiner::new(2, 7, 0),
+            Combiner::new(2, 0, 0x40),
+        ];
+        let in_color = |n: usize| {
+            let mut key = Key::of(&[PLAIN; STAGES]);
+            for (cause, shift) in CAUSES.into_iter().zip([0, 1, 3]) {
+                key.stages[(n + shift) % STAGES].color = cause;
+            }
+            key
+        };
+        let in_alpha = |choice: usize| {
+            let mut key = Key::of(&[PLAIN; CAUSES.len()]);
+            for (n, cause) in CAUSES.into_iter().enumerate() {
+                if choice >> n & 1 != 0 {
+                    key.stages[n].alpha = cause;
+                }
+            }
+            key
+        };
+        let mut keys: Vec<Key> = (0..STAGES).map(in_color).collect();
+        keys.push(Key::of(&FULL_OF_CAUSES));
+        let mut triples = self.triples(&keys);
+        let keys: Vec<Key> = (0..1 << CAUSES.len()).map(in_alpha).collect();
+        for mut triple in self.triples(&keys) {
+            triple.variant.alpha_func = 9;
+            triples.push(triple);
+        }
+        triples
     }
 
     fn random(&mut self) -> Vec<Triple> {

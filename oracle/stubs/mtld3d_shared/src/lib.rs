@@ -1,6 +1,8 @@
-//! Stand-in for `mtld3d_shared`: Metal buffer slots, and log macros that record 01's warning number.
+//! Stand-in for `mtld3d_shared`: Metal buffer slots, and log macros that note 01's causes of warnings, with their stages.
 
 use std::cell::Cell;
+
+pub use mtld3d_shared_macros::log_once_warn;
 
 pub mod mtl {
     /// The value that 01 gives.
@@ -13,51 +15,66 @@ pub mod mtl {
     pub const VS_DRAW_SLOT: u16 = 12;
 }
 
-/// Recorded for a message that 01 does not number.
-pub const UNNUMBERED: u8 = 0x80;
+/// What was logged. A mask has bit i for stage i.
+#[derive(Clone, Copy, Debug, PartialEq, Eq)]
+pub struct Logged {
+    pub op: u8,
+    pub selector: u8,
+    pub modifier: u8,
+    pub alpha: bool,
+    /// A message that 01 does not number.
+    pub unnumbered: bool,
+}
 
-const NUMBERS: [(&str, u8); 4] = [
-    ("ff-fallback texture-op unhandled=", 1),
-    ("ff-fallback texture-arg unhandled=", 2),
-    ("ff-fallback texture-arg modifier unhandled=", 4),
-    ("ff-fallback alpha_func unhandled=", 8),
-];
+impl Logged {
+    const NOTHING: Self = Self {
+        op: 0,
+        selector: 0,
+        modifier: 0,
+        alpha: false,
+        unnumbered: false,
+    };
+}
 
 thread_local! {
-    static WARNING: Cell<u8> = const { Cell::new(0) };
+    static LOGGED: Cell<Logged> = const { Cell::new(Logged::NOTHING) };
 }
 
-/// 01's warning number of a message, by the front of its format string.
-#[must_use]
-pub fn number(format: &str) -> u8 {
-    NUMBERS
-        .iter()
-        .find(|(front, _)| format.starts_with(front))
-        .map_or(UNNUMBERED, |&(_, number)| number)
+/// Takes what this thread has logged and clears it.
+pub fn take_logged() -> Logged {
+    LOGGED.replace(Logged::NOTHING)
 }
 
-/// Adds a message's number to this thread's warning.
-pub fn record(format: &str) {
-    WARNING.set(WARNING.get() | number(format));
+fn note(alter: impl Fn(&mut Logged)) {
+    let mut logged = LOGGED.get();
+    alter(&mut logged);
+    LOGGED.set(logged);
 }
 
-/// Takes this thread's warning and clears it.
-pub fn take_warning() -> u8 {
-    WARNING.take()
+pub fn note_op(stage: usize) {
+    note(|logged| logged.op |= 1 << stage);
 }
 
-#[macro_export]
-macro_rules! log_once_warn {
-    (target: $target:expr, $format:literal $($rest:tt)*) => {{
-        let _ = ($target, format_args!($format $($rest)*));
-        $crate::record($format);
-    }};
+pub fn note_selector(stage: usize) {
+    note(|logged| logged.selector |= 1 << stage);
+}
+
+pub fn note_modifier(stage: usize) {
+    note(|logged| logged.modifier |= 1 << stage);
+}
+
+pub fn note_alpha() {
+    note(|logged| logged.alpha = true);
+}
+
+pub fn note_unnumbered() {
+    note(|logged| logged.unnumbered = true);
 }
 
 #[macro_export]
 macro_rules! log_once_info_by {
     (target: $target:expr, key: $key:expr, $format:literal $($rest:tt)*) => {{
         let _ = ($target, $key, format_args!($format $($rest)*));
-        $crate::record($format);
+        $crate::note_unnumbered();
     }};
 }

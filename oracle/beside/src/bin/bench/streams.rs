@@ -243,10 +243,12 @@ fn ours_output(input: &[u8], out: &mut Vec<u8>, text: &mut [u8]) {
         assert_eq!(number, 0, "a good record");
         if applied.kind == Kind::Emit as u64 {
             let e = applied.result;
+            let (op, selector) = (e.op_warnings, e.selector_warnings);
+            let (modifier, alpha) = (e.modifier_warnings, e.alpha_warning);
             writeln!(
                 out,
-                "emit {} {} {} {}",
-                e.mask, e.rows, e.lookups, e.warning
+                "emit {} {} {} {op} {selector} {modifier} {alpha}",
+                e.mask, e.rows, e.lookups
             )
             .expect("room");
             out.extend_from_slice(&text[..e.length as usize]);
@@ -257,7 +259,7 @@ fn ours_output(input: &[u8], out: &mut Vec<u8>, text: &mut [u8]) {
     writeln!(out, "end {texts}").expect("room");
 }
 
-/// The same by the published Rust, with lookups and warning by 01's rules on the key, which the Rust does not report.
+/// The same by the published Rust, with lookups and warnings by 01's rules on the key, which the Rust does not report.
 fn rust_output(input: &[u8], out: &mut Vec<u8>) {
     let mut held = Held::default();
     let (mut at, mut texts) = (0, 0);
@@ -269,8 +271,8 @@ fn rust_output(input: &[u8], out: &mut Vec<u8>) {
             let (text, mask, rows) = rust_emit(&held);
             let key = held.key.expect("a key");
             let lookups = rules::marks(&key).count_ones();
-            let warning = rules::warning(&key, &held.variant.expect("a variant"));
-            writeln!(out, "emit {mask} {rows} {lookups} {warning}").expect("room");
+            let warnings = rules::warnings(&key, &held.variant.expect("a variant"));
+            writeln!(out, "emit {mask} {rows} {lookups} {warnings}").expect("room");
             out.extend_from_slice(text.as_bytes());
             texts += 1;
         } else {

@@ -29,6 +29,8 @@ pub enum Wrong {
     ApplyWritesAnotherByte,
     ApplyWritesOnRefusal,
     ApplyDropsTheMask,
+    ApplyMovesTheWarnings,
+    ApplyDropsTheAlphaWarning,
     ApplyDropsWhatItTook,
     ApplyNamesAnotherKind,
     ApplyLeavesTheResultOfAKey,
@@ -39,7 +41,7 @@ pub enum Wrong {
 }
 
 impl Wrong {
-    pub const ALL: [Self; 29] = [
+    pub const ALL: [Self; 31] = [
         Self::ReadTakesOneMore,
         Self::ReadNamesAnotherKind,
         Self::ReadPutsKindAfterLength,
@@ -62,6 +64,8 @@ impl Wrong {
         Self::ApplyWritesAnotherByte,
         Self::ApplyWritesOnRefusal,
         Self::ApplyDropsTheMask,
+        Self::ApplyMovesTheWarnings,
+        Self::ApplyDropsTheAlphaWarning,
         Self::ApplyDropsWhatItTook,
         Self::ApplyNamesAnotherKind,
         Self::ApplyLeavesTheResultOfAKey,
@@ -165,6 +169,10 @@ impl Functions for Wrong {
             Self::ApplyClearsTheByteBehind if length != 0 => spoil(text.get_mut(length)),
             Self::ApplyWritesAnotherByte if length != 0 => spoil(text.get_mut(length - 1)),
             Self::ApplyDropsTheMask => report.result.mask = 0,
+            Self::ApplyMovesTheWarnings => {
+                report.result.modifier_warnings = report.result.modifier_warnings << 1 & 0xff;
+            }
+            Self::ApplyDropsTheAlphaWarning => report.result.alpha_warning = 0,
             Self::ApplyDropsWhatItTook if report.kind == EMIT => report.taken = 0,
             Self::ApplyNamesAnotherKind if report.kind == EMIT => report.kind = KEY,
             Self::ApplyLeavesTheResultOfAKey if report.kind == KEY => {
