@@ -45,6 +45,13 @@ pub struct Entry {
     pub name: [u8; 32],
 }
 
+// A write of a texture stage state: a stage, the state's type by its number, and a value.
+pub struct StateWrite {
+    pub stage: u8,
+    pub state: u8,
+    pub value: u32,
+}
+
 // What an accepted emission reports of its text.
 pub struct Emitted {
     pub length: usize,
@@ -54,7 +61,7 @@ pub struct Emitted {
     pub warning: u8,
 }
 
-// Why a call is refused: 1 to 9 in order, then 13.
+// Why a call is refused: 1 to 9 in order, then 13, then 10 to 12.
 pub enum Refusal {
     CutShort,
     UnknownKind,
@@ -66,6 +73,9 @@ pub enum Refusal {
     NoRoom,
     InputTooLong,
     ReservedWord,
+    StageNumber,
+    StateType,
+    StateValue,
 }
 
 // What emission from values answers.
@@ -89,5 +99,8 @@ pub fn number(refusal: Refusal) -> u8
         Refusal::NoRoom => 8,
         Refusal::InputTooLong => 9,
         Refusal::ReservedWord => 13,
+        Refusal::StageNumber => 10,
+        Refusal::StateType => 11,
+        Refusal::StateValue => 12,
     }
 }
