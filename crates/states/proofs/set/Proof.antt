@@ -7,12 +7,12 @@ use lib.ListN.{length-map}
 use Rattle.states.specs.States.{defaultStage, setState}
 use Rattle.states.specs.Writes.{accepted, writeApplied}
 use Rattle.states.proofs.Stages.{getD-there}
-use Rattle.states.proofs.Accepted.{agrees, free, isGood, takes-byte}
+use Rattle.states.proofs.Accepted.{agrees, free, isGood, takes-byte, told-good}
 use Rattle.states.proofs.set.Statement.{statement}
 use Rattle.states.proofs.set.Tie as tie
 
 accepts : (s : tie.After-enum-told) → accepted (s .before .before .before .args .write) ≡ true
-accepts s = agrees (s .before .before .before .args .write) ∙ ap isGood (sym (s .before .before .check .ensures .0) ∙ s .enum-told .given .1)
+accepts s = told-good (s .before .before .before .args .write) (s .before .before .check .ensures .0) (s .enum-told .given .1)
 
 returns : tie.Need-returns
 unfolding writeApplied
