@@ -7,7 +7,7 @@ use borrow.Author.Tests.{eqb-true, eq-eqb, ne-eqb}
 use lib.Dec.{eqb}
 use mir.Val.{boolByte}
 use Rattle.states.specs.Types.{resultArg, takes, textureBound}
-use Rattle.states.specs.States.{boundOf, resultOf, setFlags, withBound, withResult}
+use Rattle.states.specs.States.{boundOf, resultArgOf, setFlags, withBound, withResult}
 
 pub bit-byte : (b : Bool) → boolByte b ≡ cond b 1 0
 bit-byte true = refl
@@ -34,7 +34,7 @@ module _ (v f : ℕ) where
       (λ h. let z = eqb-true v 0 h in rw z (omega arith))
       (λ h. let z = eqb-true v 1 h in rw z (omega arith))
 
-  result-after-bound : resultOf (withBound v f) ≡ resultOf f
+  result-after-bound : resultArgOf (withBound v f) ≡ resultArgOf f
   result-after-bound =
       let e : (cond (eqb v 1) 1 0 + 2 * (f / 2)) / 2 % 2 ≡ f / 2 % 2 = omega (arith, small (eqb v 1)) in
       rw e
@@ -43,7 +43,7 @@ module _ (v f : ℕ) where
   rest-after-bound = omega (arith, small (eqb v 1))
 
   -- a result's write sets bit 1 and leaves the others
-  result-after-result : (eqb v 1 || eqb v 5) ≡ true → resultOf (withResult v f) ≡ v
+  result-after-result : (eqb v 1 || eqb v 5) ≡ true → resultArgOf (withResult v f) ≡ v
   result-after-result e =
       either (eqb v 1) (eqb v 5) e
       (λ h. let z = eqb-true v 1 h in rw (z, eq-eqb ((f % 2 + (2 * 0 + 4 * (f / 4))) / 2 % 2) 0 (omega arith)))
@@ -57,7 +57,7 @@ module _ (v f : ℕ) where
 
 -- what the flags say of result and texture after a write, and that their other bits stay
 pub record FlagsAfter (t v f : ℕ) : Type 0 where
-  pub result : resultOf (setFlags t v f) ≡ cond (eqb t resultArg) v (resultOf f)
+  pub result : resultArgOf (setFlags t v f) ≡ cond (eqb t resultArg) v (resultArgOf f)
   pub bound : boundOf (setFlags t v f) ≡ cond (eqb t textureBound) v (boundOf f)
   pub rest : setFlags t v f / 4 ≡ f / 4
 

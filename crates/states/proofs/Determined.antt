@@ -14,13 +14,13 @@ use Rattle.values.specs.declared.Key.{Key}
 use Rattle.values.specs.declared.StateWrite.{StateWrite}
 use Rattle.values.specs.Flags.{stageFlagsBad}
 use Rattle.states.specs.Types.{colourOp, colourArg1, colourArg2, alphaOp, alphaArg1, alphaArg2, resultArg, textureBound}
-use Rattle.states.specs.States.{defaultStage, getState, resultOf, stageAt, stageState}
+use Rattle.states.specs.States.{defaultStage, getState, resultArgOf, stageAt, stageState}
 use Rattle.states.specs.Writes.{lastWritten, writesApplied}
 use Rattle.states.proofs.Stages.{no-spare}
 use Rattle.states.proofs.Keys.{Kept, spare}
 use Rattle.states.proofs.LastWritten.{all-kept, last-written}
 
-result-bit : (a b : ℕ) → resultOf a ≡ resultOf b → a / 2 % 2 ≡ b / 2 % 2
+result-bit : (a b : ℕ) → resultArgOf a ≡ resultArgOf b → a / 2 % 2 ≡ b / 2 % 2
 result-bit a b e = go (eqb (a / 2 % 2) 0) (eqb (b / 2 % 2) 0) refl refl e
   where
     go : (p q : Bool) → eqb (a / 2 % 2) 0 ≡ p → eqb (b / 2 % 2) 0 ≡ q → _≡_ {A = ℕ} (cond p 1 5) (cond q 1 5) → a / 2 % 2 ≡ b / 2 % 2

@@ -13,8 +13,8 @@ use Rattle.states.specs.Types.{colourOp, colourArg1, colourArg2, alphaOp
 abbrev pub boundOf : ℕ → ℕ
 boundOf flags = flags % 2
 
-abbrev pub resultOf : ℕ → ℕ
-resultOf flags = cond (eqb (flags / 2 % 2) 0) 1 5
+abbrev pub resultArgOf : ℕ → ℕ
+resultArgOf flags = cond (eqb (flags / 2 % 2) 0) 1 5
 
 -- the flags with bit 0, or bit 1, written; every other bit stays
 abbrev pub withBound : ℕ → ℕ → ℕ
@@ -35,7 +35,7 @@ stageStates s =
     ∷ (alphaOp, s .alpha .op)
     ∷ (alphaArg1, s .alpha .arg1)
     ∷ (alphaArg2, s .alpha .arg2)
-    ∷ (resultArg, resultOf (s .flags))
+    ∷ (resultArg, resultArgOf (s .flags))
     ∷ (textureBound, boundOf (s .flags))
     ∷ []
 

@@ -27,7 +27,7 @@ checkedWrite w =
     cond (ltb 7 (w .stage)) (Bad StageNumber)
     (cond (not (isType (w .state))) (Bad StateType) (cond (not (takes (w .state) (w .value))) (Bad StateValue) Good))
 
--- the number of an answer, 0 for a good value
+-- the number of what was checked, 0 for a good write
 abbrev pub checkedNumber : Checked → ℕ
 checkedNumber Good = 0
 checkedNumber (Bad c) = numberOf c
@@ -53,8 +53,9 @@ unfoldable pub lastWritten : ℕ → ℕ → List StateWrite → Option ℕ
 lastWritten i t [] = none
 lastWritten i t (w ∷ r) = orElse (lastWritten i t r) (cond (writes w i t) (some (w .value)) none)
 
--- 02, One: "For every list of writes the key must hold, for each stage and type, the last value written, or else what it held before." The law is
--- a theorem, `last-written` in proofs/LastWritten.
+-- The law. 02, One: "For every list of writes the key must hold, for each stage and type, the last value written, or else what it held before." It is a
+-- theorem for every list: `last-written` of proofs/LastWritten for a key that was held, `from-defaults` for none, and `last-held` of
+-- records/proofs/Writes for the records of the list, handed over one by one.
 abbrev pub LastWritten : List StateWrite → Key → Type 0
 LastWritten ws k = (i t : ℕ) → getState i t (writesApplied ws k) ≡ Option·getD (lastWritten i t ws) (getState i t k)
 

@@ -6,7 +6,7 @@ use values::Stage;
 use values::StateWrite;
 ghost use mathlib.Core.Path.{_≡_};
 ghost use Rattle.states.specs.Types.{isType, takes};
-ghost use Rattle.states.specs.States.{defaultCombiner, defaultStage, defaults, resultOf, setStage, stageState, withBound, withResult};
+ghost use Rattle.states.specs.States.{defaultCombiner, defaultStage, defaults, resultArgOf, setStage, stageState, withBound, withResult};
 ghost use Rattle.states.specs.Writes.{checkedNumber, checkedWrite, gotState, stateWriteNumber, writeApplied};
 
 // The types of states, by Direct3D 9's names and numbers.
@@ -131,8 +131,8 @@ pub fn defaults() -> Key
     }
 }
 
-fn result_of(flags: u8) -> u8
-    ensures { λ r. ⌜ r ≡ resultOf flags ⌝ }
+fn result_arg_of(flags: u8) -> u8
+    ensures { λ r. ⌜ r ≡ resultArgOf flags ⌝ }
 {
     if flags / 2 % 2 == 0 {
         D3DTA_CURRENT
@@ -151,7 +151,7 @@ fn state_of(stage: Stage, state: u8) -> u8
         D3DTSS_ALPHAOP => stage.alpha.op,
         D3DTSS_ALPHAARG1 => stage.alpha.arg1,
         D3DTSS_ALPHAARG2 => stage.alpha.arg2,
-        D3DTSS_RESULTARG => result_of(stage.flags),
+        D3DTSS_RESULTARG => result_arg_of(stage.flags),
         TEXTURE_BOUND => stage.flags % 2,
         _ => 0,
     }

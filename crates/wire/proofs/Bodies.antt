@@ -17,7 +17,7 @@ use Rattle.values.specs.declared.Entry.{Entry}
 use Rattle.values.specs.declared.StateWrite.{StateWrite}
 use Rattle.states.specs.Writes.{accepted}
 use Rattle.wire.specs.Bodies.{bodyLength, recordLength, stagesBytes, keyBytes, variantBytes, entryBytes, stateBytes, bodyBytes, recordBytes}
-use Rattle.wire.specs.Bodies.{specularByte, stagesFromBytes, keyFromBody, maskAt, variantFromBody, entryFromBody, stateFromBody}
+use Rattle.wire.specs.Bodies.{specularByte, stagesFromBytes, keyFromBody, variantFromBody, entryFromBody, stateFromBody}
 use Rattle.wire.specs.Values.{blankKey, blankEntry, keyRecord, variantRecord, entryRecord, emitRecord, stateRecord}
 use Rattle.wire.specs.declared.Kind.{Kind}
 use Rattle.wire.specs.declared.Kind.the-variants as kind

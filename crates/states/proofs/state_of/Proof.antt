@@ -16,6 +16,6 @@ state-of-spec =
     (λ c. rw (c .match .keys4))
     (λ c. rw (c .match .keys5))
     (λ c. rw (c .match .keys6))
-    (λ c. rw (c .before .match .keys7, c .result-of .ensures))
+    (λ c. rw (c .before .match .keys7, c .result-arg-of .ensures))
     (λ c. rw (c .before .match .keys8))
     (λ c. search (ne-eqb, c .match .rest)))
