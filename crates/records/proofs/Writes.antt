@@ -1,12 +1,13 @@
 -- Request One's law for what is held: behind a list of write records the held key holds, for each stage and type, the last value written, or else what
 -- it held before, or the default where none was held. Each record does to the key what its write does, and the law of `states` does the rest.
 use Prim.Native.Nat.{ℕ}
-use mathlib.Core.Path.{_≡_, refl, ap, _∙_}
+use mathlib.Core.Path.{_≡_, refl, sym, ap, _∙_}
 use mathlib.Core.Bool.{Bool, true, false, _||_, cond}
 use mathlib.Core.List.{List, [], _∷_}
 use mathlib.Core.Option.{Option·getD}
+use Rattle.values.specs.declared.Key.{Key}
 use Rattle.values.specs.declared.StateWrite.{StateWrite}
-use Rattle.states.specs.States.{getState}
+use Rattle.states.specs.States.{defaults, getState}
 use Rattle.states.specs.Writes.{accepted, checkedWrite, lastWritten, writeApplied, writesApplied}
 use Rattle.states.specs.declared.Checked.{Checked}
 use Rattle.states.proofs.Accepted.{check-cases}
@@ -17,9 +18,9 @@ use Rattle.wire.specs.Reading.{tookIf, readBody, readAs, readRecord}
 use Rattle.wire.specs.declared.Kind.the-variants as kind
 use Rattle.wire.specs.declared.Reading.{Reading}
 use Rattle.wire.proofs.Bodies.{state-back}
-use Rattle.records.specs.Applying.{keyOrDefaults, holding, applyAs, applyRead, heldAfter, applied}
+use Rattle.records.specs.Applying.{nothingHeld, keyOrDefaults, holding, applyAs, applyRead, heldAfter, applied}
 use Rattle.records.specs.declared.Held.{Held}
-use Rattle.records.proofs.Room.{EightStages, start-eight}
+use Rattle.records.proofs.Room.{EightStages, nothing-held-eight, start-eight}
 
 -- what is held behind the records of a list of writes, each handed over by itself, the first of the list first; room is the length of the buffer
 unfoldable pub heldBehind : List StateWrite → ℕ → Held → Held
@@ -48,7 +49,7 @@ unfolding holding writeApplied
 one-key w h true e = refl
 one-key w h false e = rw e
 
--- the key that the next write will alter is the one that the list of writes leaves
+-- the key that a further write would alter is the one that the list of writes leaves
 pub key-behind : (ws : List StateWrite) (room : ℕ) (h : Held) → keyOrDefaults (heldBehind ws room h) ≡ writesApplied ws (keyOrDefaults h)
 unfolding heldBehind writesApplied
 key-behind [] room h = refl
@@ -56,7 +57,7 @@ key-behind (w ∷ r) room h =
     key-behind r room (applied h (recordBytes (stateRecord w)) room .held)
     ∙ ap (writesApplied r) (ap keyOrDefaults (one-held w room h) ∙ one-key w h (accepted w) refl)
 
--- The law, for a held key and for none.
+-- The law, said of that key.
 pub last-held : (ws : List StateWrite) (room : ℕ) (h : Held) → EightStages h → (i t : ℕ) →
     getState i t (keyOrDefaults (heldBehind ws room h)) ≡ Option·getD (lastWritten i t ws) (getState i t (keyOrDefaults h))
 last-held ws room h eight i t = ap (getState i t) (key-behind ws room h) ∙ last-written ws (keyOrDefaults h) (start-eight h eight) i t
@@ -79,3 +80,24 @@ held-behind [] room h = refl
 held-behind (w ∷ r) room h =
     held-behind r room (applied h (recordBytes (stateRecord w)) room .held)
     ∙ ap (λ (x : Held). anyAccepted r || x .«has_key») (one-held w room h) ∙ one-has w h (accepted w) (anyAccepted r)
+
+-- So it holds of the held key itself: of one that was held before, and of one that begins from the defaults with the first accepted write.
+held-key : (h : Held) → h .«has_key» ≡ true → keyOrDefaults h ≡ h .key
+held-key h e = rw e
+
+or-held : (a : Bool) → (a || true) ≡ true
+or-held true = refl
+or-held false = refl
+
+pub last-of-key : (ws : List StateWrite) (room : ℕ) (h : Held) → EightStages h → h .«has_key» ≡ true → (i t : ℕ) →
+    getState i t (heldBehind ws room h .key) ≡ Option·getD (lastWritten i t ws) (getState i t (h .key))
+last-of-key ws room h eight e i t =
+    let after = held-behind ws room h ∙ ap (λ (b : Bool). anyAccepted ws || b) e ∙ or-held (anyAccepted ws) in
+    ap (getState i t) (sym (held-key (heldBehind ws room h) after)) ∙ last-held ws room h eight i t
+    ∙ ap (λ (k : Key). Option·getD (lastWritten i t ws) (getState i t k)) (held-key h e)
+
+pub last-of-none : (ws : List StateWrite) (room : ℕ) → anyAccepted ws ≡ true → (i t : ℕ) →
+    getState i t (heldBehind ws room nothingHeld .key) ≡ Option·getD (lastWritten i t ws) (getState i t defaults)
+last-of-none ws room e i t =
+    let after = held-behind ws room nothingHeld ∙ ap (λ (b : Bool). b || false) e in
+    ap (getState i t) (sym (held-key (heldBehind ws room nothingHeld) after)) ∙ last-held ws room nothingHeld nothing-held-eight i t
