@@ -1,4 +1,4 @@
--- What the program prints for no input, for an emit record alone and for 01's example, computed.
+-- What the program prints for no input, for an emit record alone, for write records and for 01's example, computed.
 use mathlib.Core.Path.{_≡_, refl}
 use mathlib.Core.List.{List, [], _∷_, _++_}
 use Prim.Native.Nat.{ℕ}
@@ -21,6 +21,8 @@ use Rattle.wire.specs.Bodies.{stagesFromBytes, keyFromBody, variantFromBody, en
 use Rattle.wire.specs.Values.{blankKey, blankVariant, blankEntry}
 use Rattle.wire.specs.Reading.{readBody, readAs, readRecord}
 use Rattle.records.specs.Applying.{holding, applyAs, applyRead}
+use Rattle.states.specs.Writes.{checkedWrite}
+use Rattle.wire.specs.Bodies.{stateFromBody}
 use Rattle.printout.specs.Program.{emitLine, endLine, refusedLine, printed, printedFrom, programOutput}
 
 nothing : programOutput [] ≡ linesOf ("end 0" ∷ [])
@@ -30,6 +32,20 @@ nothing = refl
 too-early : programOutput (4 ∷ []) ≡ linesOf ("refused 7 at 0" ∷ [])
 unfolding programOutput printedFrom printed applyRead applyAs refusedLine decimalOf readRecord readAs readBody
 too-early = refl
+
+-- 02, One: a write of colour op 4 at stage 0 is taken and prints nothing; an emit record behind it still lacks a variant and an entry; a write at stage
+-- 8 is refused for its stage, whatever its type and value are
+write-taken : programOutput (5 ∷ 0 ∷ 1 ∷ 4 ∷ 0 ∷ 0 ∷ 0 ∷ []) ≡ linesOf ("end 0" ∷ [])
+unfolding programOutput printedFrom printed endLine decimalOf holding applyRead applyAs readRecord readAs readBody stateFromBody checkedWrite
+write-taken = refl
+
+write-then-emit : programOutput (5 ∷ 0 ∷ 1 ∷ 4 ∷ 0 ∷ 0 ∷ 0 ∷ 4 ∷ []) ≡ linesOf ("refused 7 at 7" ∷ [])
+unfolding programOutput printedFrom printed refusedLine decimalOf holding applyRead applyAs readRecord readAs readBody stateFromBody checkedWrite
+write-then-emit = refl
+
+write-refused : programOutput (5 ∷ 8 ∷ 7 ∷ 0 ∷ 1 ∷ 0 ∷ 0 ∷ []) ≡ linesOf ("refused 10 at 0" ∷ [])
+unfolding programOutput printedFrom printed refusedLine decimalOf applyRead applyAs readRecord readAs readBody stateFromBody checkedWrite
+write-refused = refl
 
 -- 01's example: "a key with stage 0 op 1 and all else 0, a zero variant, entry `m`, emit"
 example : List ℕ

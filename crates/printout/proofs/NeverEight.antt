@@ -142,6 +142,9 @@ other refusal.EmitTooEarly f e = omega (arith, ap firstByte e)
 other refusal.NoRoom f e = f refl
 other refusal.InputTooLong f e = omega (arith, ap firstByte e)
 other refusal.ReservedWord f e = omega (arith, ap firstByte e)
+other refusal.StageNumber f e = omega (arith, ap firstByte e)
+other refusal.StateType f e = omega (arith, ap firstByte e)
+other refusal.StateValue f e = omega (arith, ap firstByte e)
 
 not-eight : {out : List ℕ} → Ends out → (y : List ℕ) (q : ℕ) → out ≡ y ++ refusedLine refusal.NoRoom q → ⊥
 not-eight (ended x n) y q e =

@@ -17,9 +17,10 @@ use Rattle.values.specs.declared.Answer.{Answer}
 use Rattle.values.specs.declared.Answer.the-variants as emission
 use Rattle.values.specs.declared.Refusal.{Refusal}
 use Rattle.values.specs.declared.Refusal.the-variants.{CutShort, UnknownKind, StageFlags, SpecularAdd, VariantFlags, EntryName, ReservedWord, EmitTooEarly, NoRoom, InputTooLong}
+use Rattle.values.specs.declared.Refusal.the-variants.{StageNumber, StateType, StateValue}
 use Rattle.shader.specs.Results.{textOf, emittedOf, answerOf, emissionNumber}
 use Rattle.wire.specs.Bodies.{recordLength}
-use Rattle.wire.specs.Values.{keyRecord, variantRecord, entryRecord}
+use Rattle.wire.specs.Values.{keyRecord, variantRecord, entryRecord, stateRecord}
 use Rattle.wire.specs.declared.Kind.the-variants as kind
 use Rattle.wire.specs.declared.Record.{Record}
 use Rattle.wire.specs.declared.Reading.{Reading}
@@ -83,6 +84,9 @@ positive ReservedWord = refl
 positive EmitTooEarly = refl
 positive NoRoom = refl
 positive InputTooLong = refl
+positive StageNumber = refl
+positive StateType = refl
+positive StateValue = refl
 
 -- P of each case gives P of what is answered.
 pub apply-cases : (P : ApplyAnswer → Type 0) (h : Held) (b : List ℕ) (room : ℕ) → ApplyCases P h b room → P (applyAnswer h b room)
@@ -95,6 +99,7 @@ apply-cases P h b room cases =
       variant = λ v t. cases .value (variantRecord v) t (rw (t .number, t .first));
       entry = λ e t. cases .value (entryRecord e) t (rw (t .number, t .first));
       emit = λ t. emit-cases P 1 h room (λ c n. cases .refusal c (rw (t .number, t .first) n)) (λ n. cases .text (t .within) (rw (t .number, t .first) n));
+      state = λ w t. cases .value (stateRecord w) t (rw (t .number, t .first));
     })
 
 -- The number of what is answered is the one that 01's table gives.

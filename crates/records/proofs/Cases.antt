@@ -2,11 +2,9 @@
 use mathlib.Core.Path.{_≡_, refl, sym, ap, _∙_}
 use mathlib.Core.Bool.{Bool, true, false}
 use mathlib.Core.List.{List, [], _∷_}
-use mathlib.Core.Logic.{inl, inr}
 use Prim.Native.Nat.{ℕ}
-use native.Mathlib.Omega.{arith}
 use denote.Enum.Declared.{tagOf}
-use types.Run.{OneOf}
+use types.Run.{OneOf, miss}
 use Rattle.values.specs.declared.Answer.{Answer}
 use Rattle.values.specs.declared.Refusal.{Refusal}
 use Rattle.values.specs.declared.Refusal.the-variants.{EmitTooEarly}
@@ -70,12 +68,11 @@ module _ (h : Held) (b : List ℕ) (room : ℕ) {x : Reading} (e : x ≡ readRec
         ∙ ap (λ (j : Kind). record { answer = applyAs j n h room; held = heldAfter (applyAs j n h room) (x .found) h }) (sym g)
         ∙ by-answer t
 
--- a record of the first three kinds
-pub replaces : (k : Kind) (n : ℕ) (h : Held) (room : ℕ) → OneOf (0 ∷ 1 ∷ 2 ∷ []) (tagOf the-type k) → applyAs k n h room ≡ Replaced n
+-- a record of any other kind
+pub replaces : (k : Kind) (n : ℕ) (h : Held) (room : ℕ) → OneOf (0 ∷ 1 ∷ 2 ∷ 4 ∷ []) (tagOf the-type k) → applyAs k n h room ≡ Replaced n
 unfolding applyAs
 replaces kind.Key n h room e = refl
 replaces kind.Variant n h room e = refl
 replaces kind.Entry n h room e = refl
-replaces kind.Emit n h room (inl e) = absurd (omega arith)
-replaces kind.Emit n h room (inr (inl e)) = absurd (omega arith)
-replaces kind.Emit n h room (inr (inr e)) = absurd (omega arith)
+replaces kind.Emit n h room e = absurd (miss (0 ∷ 1 ∷ 2 ∷ 4 ∷ []) 3 tt e)
+replaces kind.State n h room e = refl

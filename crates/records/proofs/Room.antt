@@ -1,6 +1,6 @@
 -- A held key has eight stages, so that a buffer of 16,384 bytes takes its text: there no record is refused with 8.
 use mathlib.Core.Path.{_≡_, refl, sym, _∙_}
-use mathlib.Core.Bool.{Bool, true, false, cond, true≢false}
+use mathlib.Core.Bool.{Bool, true, false, not, cond, true≢false}
 use mathlib.Core.List.{List, [], _∷_}
 use Prim.Native.Nat.{ℕ, _≤_}
 use native.Mathlib.Omega.{arith}
@@ -10,15 +10,20 @@ use lib.ListN.{length, getD}
 use Rattle.values.specs.Flags.{stageFlagsBad, variantFlagsBad}
 use Rattle.values.specs.Entries.{entryGood}
 use Rattle.values.specs.Words.{entryReserved}
+use Rattle.values.specs.declared.StateWrite.{StateWrite}
+use Rattle.states.specs.Types.{isType, takes}
+use Rattle.states.specs.States.{defaults}
+use Rattle.states.specs.Writes.{stateWriteNumber}
+use Rattle.states.proofs.Keys.{defaults-eight, kept}
 use Rattle.shader.proofs.Length.{never-eight}
-use Rattle.wire.specs.Bodies.{bodyLength, specularByte, keyFromBody, variantFromBody, entryFromBody}
+use Rattle.wire.specs.Bodies.{bodyLength, specularByte, keyFromBody, variantFromBody, entryFromBody, stateFromBody}
 use Rattle.wire.specs.Values.{blankKey}
 use Rattle.wire.specs.Reading.{bodyNumber, recordNumber, readRecord}
 use Rattle.wire.specs.declared.Kind.{Kind}
 use Rattle.wire.specs.declared.Kind.the-variants as kind
 use Rattle.wire.specs.declared.Record.{Record}
 use Rattle.wire.proofs.Found.{read-shaped}
-use Rattle.records.specs.Applying.{nothingHeld, holdsAll, holding, heldAfter, applyAnswer, applied, applyNumber, emitNumber, appliedNumber}
+use Rattle.records.specs.Applying.{nothingHeld, holdsAll, keyOrDefaults, holding, heldAfter, applyAnswer, applied, applyNumber, emitNumber, appliedNumber}
 use Rattle.records.specs.declared.Held.{Held}
 use Rattle.records.specs.declared.ApplyAnswer.{ApplyAnswer}
 use Rattle.records.specs.declared.ApplyAnswer.the-variants.{Replaced, Text, Refused}
@@ -31,12 +36,21 @@ pub nothing-held-eight : EightStages nothingHeld
 unfolding blankKey
 nothing-held-eight = refl
 
+-- a write alters one stage of eight
+pub start-eight : (h : Held) → EightStages h → length (keyOrDefaults h .stages) ≡ 8
+start-eight h t = go (h .«has_key»)
+  where
+    go : (b : Bool) → length (cond b (h .key) defaults .stages) ≡ 8
+    go true = t
+    go false = defaults-eight
+
 holding-eight : (k : Kind) (r : Record) (h : Held) → length (r .key .stages) ≡ 8 → EightStages h → EightStages (holding k r h)
 unfolding holding
 holding-eight kind.Key r h s t = s
 holding-eight kind.Variant r h s t = t
 holding-eight kind.Entry r h s t = t
 holding-eight kind.Emit r h s t = t
+holding-eight kind.State r h s t = let e = start-eight h t in kept (r .write) (keyOrDefaults h) e .stages ∙ e
 
 after-eight : (a : ApplyAnswer) (r : Record) (h : Held) → length (r .key .stages) ≡ 8 → EightStages h → EightStages (heldAfter a r h)
 after-eight (Replaced n) r h s t = holding-eight (r .kind) r h s t
@@ -54,19 +68,27 @@ neither : (t : Bool) (x y : ℕ) → NotEight x → NotEight y → NotEight (con
 neither true x y p q = p
 neither false x y p q = q
 
+write-number : (w : StateWrite) → NotEight (stateWriteNumber w)
+unfolding stateWriteNumber
+write-number w =
+    neither (ltb 7 (w .stage)) 10 _ refl
+    (neither (not (isType (w .state))) 11 _ refl (neither (not (takes (w .state) (w .value))) 12 0 refl refl))
+
 body-number : (k : Kind) (b : List ℕ) → NotEight (bodyNumber k b)
 unfolding bodyNumber
 body-number kind.Key b = neither (stageFlagsBad (keyFromBody b .stages)) 3 _ refl (neither (ltb 1 (specularByte b)) 4 0 refl refl)
 body-number kind.Variant b = neither (variantFlagsBad (variantFromBody b)) 5 0 refl refl
 body-number kind.Entry b = neither (entryGood (entryFromBody b)) _ 6 (neither (entryReserved (entryFromBody b)) 13 0 refl refl) refl
 body-number kind.Emit b = refl
+body-number kind.State b = write-number (stateFromBody b)
 
 record-number : (b : List ℕ) → NotEight (recordNumber b)
 unfolding recordNumber
 record-number [] = refl
 record-number (x ∷ b) =
     neither (eqb x 1) _ _ (whole kind.Key)
-    (neither (eqb x 2) _ _ (whole kind.Variant) (neither (eqb x 3) _ _ (whole kind.Entry) (neither (eqb x 4) _ 2 (whole kind.Emit) refl)))
+    (neither (eqb x 2) _ _ (whole kind.Variant) (neither (eqb x 3) _ _ (whole kind.Entry)
+    (neither (eqb x 4) _ _ (whole kind.Emit) (neither (eqb x 5) _ 2 (whole kind.State) refl))))
   where
     whole : (k : Kind) → NotEight (cond (ltb (length b) (bodyLength k)) 1 (bodyNumber k b))
     whole k = neither (ltb (length b) (bodyLength k)) 1 _ refl (body-number k b)

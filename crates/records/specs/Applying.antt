@@ -10,6 +10,9 @@ use Rattle.shader.specs.Results.{textOf, answerOf, bufferAfter, emissionNumber}
 use Rattle.shader.specs.Demand.{Demanded}
 use Rattle.values.specs.declared.Answer.{Answer}
 use Rattle.values.specs.declared.Answer.the-variants as emission-answer
+use Rattle.values.specs.declared.Key.{Key}
+use Rattle.states.specs.States.{defaults}
+use Rattle.states.specs.Writes.{writeApplied}
 use Rattle.wire.specs.Values.{blankKey, blankVariant, blankEntry}
 use Rattle.wire.specs.Bodies.{kindByte}
 use Rattle.wire.specs.Reading.{readRecord, recordNumber}
@@ -33,7 +36,11 @@ nothingHeld =
 abbrev pub holdsAll : Held → Bool
 holdsAll h = h .«has_key» && (h .«has_variant» && h .«has_entry»)
 
--- what is held once a record's value is
+-- 02, One: "Before any write, a key starts from Microsoft's defaults"; "a write after a key record alters that key"
+abbrev pub keyOrDefaults : Held → Key
+keyOrDefaults h = cond (h .«has_key») (h .key) defaults
+
+-- what is held once a record's value is, or once its write is done. 02, One: "The first write counts as a key for number 7"
 unfoldable pub holding : Kind → Record → Held → Held
 holding kind.Key r h =
     record { «has_key» = true; key = r .key; «has_variant» = h .«has_variant»; variant = h .variant; «has_entry» = h .«has_entry»; entry = h .entry }
@@ -42,6 +49,15 @@ holding kind.Variant r h =
 holding kind.Entry r h =
     record { «has_key» = h .«has_key»; key = h .key; «has_variant» = h .«has_variant»; variant = h .variant; «has_entry» = true; entry = r .entry }
 holding kind.Emit r h = h
+holding kind.State r h =
+    record {
+      «has_key» = true;
+      key = writeApplied (r .write) (keyOrDefaults h);
+      «has_variant» = h .«has_variant»;
+      variant = h .variant;
+      «has_entry» = h .«has_entry»;
+      entry = h .entry;
+    }
 
 -- emission's answer, to a record that took n bytes
 abbrev pub emissionAnswer : ℕ → Answer → ApplyAnswer
@@ -55,6 +71,7 @@ applyAs kind.Key n h room = Replaced n
 applyAs kind.Variant n h room = Replaced n
 applyAs kind.Entry n h room = Replaced n
 applyAs kind.Emit n h room = cond (holdsAll h) (emissionAnswer n (answerOf (h .key) (h .variant) (h .entry) room)) (Refused EmitTooEarly)
+applyAs kind.State n h room = Replaced n
 
 -- by what was read
 unfoldable pub applyRead : ReadAnswer → Record → Held → ℕ → ApplyAnswer
@@ -94,11 +111,11 @@ applyNumber (Replaced n) = 0
 applyNumber (Text n e) = 0
 applyNumber (Refused c) = numberOf c
 
--- of an emit record: 7, then emission's 3, 5, 6 and 8, in that order; 0 where none of them holds
+-- of an emit record: 7, then emission's 3, 5, 6, 13 and 8, in that order; 0 where none of them holds
 unfoldable pub emitNumber : Held → ℕ → ℕ
 emitNumber h room = cond (holdsAll h) (emissionNumber (h .key) (h .variant) (h .entry) room) 7
 
--- of some bytes: the reader's 2, 1, 3, 4, 5 and 6, and behind them those of an emit record; 0 where none of them holds
+-- of some bytes: the reader's 2, 1, and those of a body, and behind them those of an emit record; 0 where none of them holds
 unfoldable pub appliedNumber : Held → List ℕ → ℕ → ℕ
 appliedNumber h b room =
     cond (eqb (recordNumber b) 0) (cond (eqb (getD b 0 0) (kindByte kind.Emit)) (emitNumber h room) 0) (recordNumber b)

@@ -1,5 +1,7 @@
 //! The held values, and the record at the front of some bytes applied to them.
 use emission::emit;
+use states::defaults;
+use states::set;
 use values::Emitted;
 use values::Entry;
 use values::Key;
@@ -12,7 +14,7 @@ use wire::make::blank_record;
 use wire::reader::read;
 ghost use mathlib.Core.Path.{_≡_};
 ghost use lib.ListN.{length};
-ghost use Rattle.records.specs.Applying.{AppliedDemand3, applied, appliedNumber, applyAs, applyNumber, emitNumber, holding, holdsAll, nothingHeld, textAfter};
+ghost use Rattle.records.specs.Applying.{AppliedDemand3, applied, appliedNumber, applyAs, applyNumber, emitNumber, holding, holdsAll, keyOrDefaults, nothingHeld, textAfter};
 
 // The held values, each there or not.
 pub struct Held {
@@ -25,7 +27,7 @@ pub struct Held {
 }
 
 pub enum ApplyAnswer {
-    // A value is held now. How many bytes its record took.
+    // A value is held now, or the held key is altered. How many bytes the record took.
     Replaced(usize),
     // A text was written. How many bytes its record took, and what emission reports.
     Text(usize, Emitted),
@@ -54,7 +56,18 @@ pub fn nothing_held() -> Held
     }
 }
 
-// What is held once the record's value is.
+// The key that a state write alters.
+fn key_or_defaults(held: Held) -> Key
+    ensures { λ r. ⌜ r ≡ keyOrDefaults held ⌝ }
+{
+    let key = held.key;
+    if held.has_key {
+        return key;
+    }
+    defaults()
+}
+
+// What is held once the record's value is, or once its write is done.
 fn hold(found: Record, held: Held) -> Held
     ensures { λ r. ⌜ r ≡ holding (found .kind) found held ⌝ }
 {
@@ -62,6 +75,7 @@ fn hold(found: Record, held: Held) -> Held
     let key = found.key;
     let variant = found.variant;
     let entry = found.entry;
+    let write = found.write;
     let mut after = held;
     match kind {
         Kind::Key => {
@@ -80,6 +94,12 @@ fn hold(found: Record, held: Held) -> Held
             after
         }
         Kind::Emit => after,
+        Kind::State => {
+            let before = key_or_defaults(held);
+            after.has_key = true;
+            after.key = set(before, write);
+            after
+        }
     }
 }
 
@@ -125,7 +145,7 @@ pub fn apply(held: Held, bytes: &[u8], text: &mut [u8]) -> Applied
             held: held,
         },
         ReadAnswer::Took(n) => match kind {
-            Kind::Key | Kind::Variant | Kind::Entry => {
+            Kind::Key | Kind::Variant | Kind::Entry | Kind::State => {
                 let after = hold(found, held);
                 Applied {
                     answer: ApplyAnswer::Replaced(n),

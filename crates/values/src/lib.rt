@@ -45,6 +45,13 @@ pub struct Entry {
     pub name: [u8; 32],
 }
 
+// A write of a texture stage state: a stage, the state's type by its number, and a value.
+pub struct StateWrite {
+    pub stage: u8,
+    pub state: u8,
+    pub value: u32,
+}
+
 // What an accepted emission reports of its text. The masks, of textured stages and of those that warn, have bit i for stage i.
 pub struct Emitted {
     pub length: usize,
@@ -57,7 +64,7 @@ pub struct Emitted {
     pub alpha_warning: bool,
 }
 
-// Why a call is refused: 1 to 9 in order, then 13.
+// Why a call is refused: 1 to 9 in order, then 13, then 10 to 12.
 pub enum Refusal {
     CutShort,
     UnknownKind,
@@ -69,6 +76,9 @@ pub enum Refusal {
     NoRoom,
     InputTooLong,
     ReservedWord,
+    StageNumber,
+    StateType,
+    StateValue,
 }
 
 // What emission from values answers.
@@ -92,5 +102,8 @@ pub fn number(refusal: Refusal) -> u8
         Refusal::NoRoom => 8,
         Refusal::InputTooLong => 9,
         Refusal::ReservedWord => 13,
+        Refusal::StageNumber => 10,
+        Refusal::StateType => 11,
+        Refusal::StateValue => 12,
     }
 }

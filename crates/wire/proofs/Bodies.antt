@@ -14,9 +14,11 @@ use Rattle.values.specs.declared.Stage.{Stage}
 use Rattle.values.specs.declared.Key.{Key}
 use Rattle.values.specs.declared.Variant.{Variant}
 use Rattle.values.specs.declared.Entry.{Entry}
-use Rattle.wire.specs.Bodies.{bodyLength, recordLength, stagesBytes, keyBytes, variantBytes, entryBytes, bodyBytes, recordBytes}
-use Rattle.wire.specs.Bodies.{specularByte, stagesFromBytes, keyFromBody, maskAt, variantFromBody, entryFromBody}
-use Rattle.wire.specs.Values.{blankKey, blankEntry, keyRecord, variantRecord, entryRecord, emitRecord}
+use Rattle.values.specs.declared.StateWrite.{StateWrite}
+use Rattle.states.specs.Writes.{accepted}
+use Rattle.wire.specs.Bodies.{bodyLength, recordLength, stagesBytes, keyBytes, variantBytes, entryBytes, stateBytes, bodyBytes, recordBytes}
+use Rattle.wire.specs.Bodies.{specularByte, stagesFromBytes, keyFromBody, variantFromBody, entryFromBody, stateFromBody}
+use Rattle.wire.specs.Values.{blankKey, blankEntry, keyRecord, variantRecord, entryRecord, emitRecord, stateRecord}
 use Rattle.wire.specs.declared.Kind.{Kind}
 use Rattle.wire.specs.declared.Kind.the-variants as kind
 use Rattle.wire.specs.declared.Record.{Record}
@@ -30,12 +32,13 @@ pub record Shaped (r : Record) : Type 0 where
 abbrev pub Bytes : List ℕ → Type 0
 Bytes b = (i : ℕ) → getD b i 0 < 256
 
--- a record's own value is free of the causes 3, 5, 6 and 13
+-- a record's own value is free of the causes 3, 5, 6, 13 and 10 to 12
 abbrev pub Free : Kind → Record → Type 0
 Free kind.Key r = stageFlagsBad (r .key .stages) ≡ false
 Free kind.Variant r = variantFlagsBad (r .variant) ≡ false
 Free kind.Entry r = (entryGood (r .entry) ≡ true) × (entryReserved (r .entry) ≡ false)
 Free kind.Emit r = Unit {0}
+Free kind.State r = accepted (r .write) ≡ true
 
 -- Lengths.
 
@@ -44,6 +47,7 @@ body-short kind.Key = omega arith
 body-short kind.Variant = omega arith
 body-short kind.Entry = omega arith
 body-short kind.Emit = omega arith
+body-short kind.State = omega arith
 
 stages-length : (l : List Stage) → length (stagesBytes l) ≡ 7 * length l
 unfolding stagesBytes
@@ -56,6 +60,7 @@ body-length kind.Key r h = simp length-append (omega (arith, stages-length (r .k
 body-length kind.Variant r h = refl
 body-length kind.Entry r h = omega (arith, h .name)
 body-length kind.Emit r h = refl
+body-length kind.State r h = refl
 
 pub record-length : (r : Record) → Shaped r → length (recordBytes r) ≡ recordLength (r .kind)
 record-length r h = omega (arith, body-length (r .kind) r h)
@@ -79,6 +84,9 @@ entry-shaped e h = record { stages = stages-blank; name = h }
 
 pub emit-shaped : Shaped emitRecord
 emit-shaped = record { stages = stages-blank; name = name-blank }
+
+pub state-shaped : (w : StateWrite) → Shaped (stateRecord w)
+state-shaped w = record { stages = stages-blank; name = name-blank }
 
 pub stages-count : (n : ℕ) (b : List ℕ) → length (stagesFromBytes n b) ≡ n
 unfolding stagesFromBytes
@@ -134,6 +142,10 @@ pub entry-back : (e : Entry) (x : List ℕ) → length (e .name) ≡ 32 → entr
 unfolding entryFromBody
 entry-back e x h = rw (take-at (e .name) x 32 h)
 
+pub state-back : (w : StateWrite) (x : List ℕ) → stateFromBody (stateBytes w ++ x) ≡ w
+unfolding stateFromBody
+state-back w x = simp mask-back
+
 -- The value that a body stands for has that body.
 
 -- n elements from place i on, one by one
@@ -166,11 +178,13 @@ key-again t h k =
     rw (stages-again 8 t (omega arith), flag-again (specularByte t) k)
     (ap (λ (l : List ℕ). take 56 t ++ l) (gets-take 56 2 t h) ∙ sym (take-add 56 2 t))
 
-low-again : (t : List ℕ) → Bytes t → (i : ℕ) → maskAt t i % 256 ≡ getD t i 0
-low-again t h i = omega (arith, h i)
+-- byte i, the low one, and what stands above it
+module _ (t : List ℕ) (h : Bytes t) where
+  low-again : (i r : ℕ) → (getD t i 0 + 256 * r) % 256 ≡ getD t i 0
+  low-again i r = omega (arith, h i)
 
-high-again : (t : List ℕ) → Bytes t → (i : ℕ) → maskAt t i / 256 ≡ getD t (i + 1) 0
-high-again t h i = omega (arith, h i)
+  high-again : (i r : ℕ) → (getD t i 0 + 256 * r) / 256 ≡ r
+  high-again i r = omega (arith, h i)
 
 pub variant-again : (t : List ℕ) → Bytes t → 19 ≤ length t → variantBytes (variantFromBody t) ≡ take 19 t
 unfolding variantFromBody variantBytes
@@ -180,3 +194,7 @@ pub entry-again : (t : List ℕ) → 33 ≤ length t → entryBytes (entryFromBo
 unfolding entryFromBody
 entry-again [] h = absurd (omega arith)
 entry-again (x ∷ t) h = refl
+
+pub state-again : (t : List ℕ) → Bytes t → 6 ≤ length t → stateBytes (stateFromBody t) ≡ take 6 t
+unfolding stateFromBody
+state-again t b h = simp (high-again t b, low-again t b) (gets-take 0 6 t h)

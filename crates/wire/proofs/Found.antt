@@ -1,6 +1,6 @@
 -- What was read, by cases: a refusal with its number, or a record of one of the kinds with all that is known of it.
 use mathlib.Core.Path.{_≡_, refl, sym, ap, _∙_}
-use mathlib.Core.Bool.{cond}
+use mathlib.Core.Bool.{Bool, cond}
 use mathlib.Core.List.{List, [], _∷_, _++_}
 use Prim.Native.Nat.{ℕ, suc, _≤_}
 use native.Mathlib.Omega.{arith}
@@ -16,16 +16,20 @@ use Rattle.values.specs.declared.Refusal.the-variants.{CutShort, UnknownKind, S
 use Rattle.values.specs.declared.Key.{Key}
 use Rattle.values.specs.declared.Variant.{Variant}
 use Rattle.values.specs.declared.Entry.{Entry}
-use Rattle.wire.specs.Bodies.{kindByte, bodyLength, recordLength, specularByte, keyFromBody, variantFromBody, entryFromBody, bodyBytes, recordBytes}
-use Rattle.wire.specs.Values.{keyRecord, variantRecord, entryRecord, emitRecord}
-use Rattle.wire.specs.Reading.{byKind, refused, took, readBody, readAs, readRecord, readNumber, bodyNumber, recordNumber}
+use Rattle.values.specs.declared.StateWrite.{StateWrite}
+use Rattle.states.specs.declared.Checked.{Checked}
+use Rattle.states.proofs.Accepted.{check-cases}
+use Rattle.wire.specs.Bodies.{kindByte, bodyLength, recordLength, specularByte, keyFromBody, variantFromBody, entryFromBody, stateFromBody, bodyBytes, recordBytes}
+use Rattle.wire.specs.Values.{keyRecord, variantRecord, entryRecord, emitRecord, stateRecord}
+use Rattle.wire.specs.Reading.{byKind, refused, took, tookIf, readBody, readAs, readRecord, readNumber, bodyNumber, recordNumber}
 use Rattle.wire.specs.declared.Kind.{Kind}
 use Rattle.wire.specs.declared.Kind.the-variants as kind
 use Rattle.wire.specs.declared.Record.{Record}
 use Rattle.wire.specs.declared.ReadAnswer.the-variants.{Took}
 use Rattle.wire.specs.declared.Reading.{Reading}
 use Rattle.wire.proofs.Laws.{either}
-use Rattle.wire.proofs.Bodies.{Shaped, Bytes, Free, key-shaped, variant-shaped, entry-shaped, emit-shaped, stages-count, name-length, key-again, variant-again, entry-again}
+use Rattle.wire.proofs.Bodies.{Shaped, Bytes, Free, key-shaped, variant-shaped, entry-shaped, emit-shaped, state-shaped, stages-count, name-length}
+use Rattle.wire.proofs.Bodies.{key-again, variant-again, entry-again, state-again}
 
 -- what is known of the record that was taken from the front of b
 pub record Taken (b : List ℕ) (r : Record) : Type 0 where
@@ -43,6 +47,7 @@ pub record Cases (P : Reading → Type 0) (b : List ℕ) : Type 0 where
   pub variant : (v : Variant) → Taken b (variantRecord v) → P (took (variantRecord v))
   pub entry : (e : Entry) → Taken b (entryRecord e) → P (took (entryRecord e))
   pub emit : Taken b emitRecord → P (took emitRecord)
+  pub state : (w : StateWrite) → Taken b (stateRecord w) → P (took (stateRecord w))
 
 -- What is read and its number come of the same tests, so that both are known at the end of each way through them.
 by-kind : (Q : ℕ → Reading → Type 0) (x : ℕ) (f : Kind → ℕ) (u : ℕ) (g : Kind → Reading) (v : Reading) →
@@ -51,7 +56,8 @@ by-kind Q x f u g v p q =
     either Q (eqb x 1) _ _ _ _ (λ e. p kind.Key (eqb-true _ _ e)) (λ _.
     either Q (eqb x 2) _ _ _ _ (λ e. p kind.Variant (eqb-true _ _ e)) (λ _.
     either Q (eqb x 3) _ _ _ _ (λ e. p kind.Entry (eqb-true _ _ e)) (λ _.
-    either Q (eqb x 4) _ _ _ _ (λ e. p kind.Emit (eqb-true _ _ e)) (λ _. q))))
+    either Q (eqb x 4) _ _ _ _ (λ e. p kind.Emit (eqb-true _ _ e)) (λ _.
+    either Q (eqb x 5) _ _ _ _ (λ e. p kind.State (eqb-true _ _ e)) (λ _. q)))))
 
 -- what is known of a record whose body stands at the front of b
 taken : (x : ℕ) (b : List ℕ) (r : Record) → recordNumber (x ∷ b) ≡ 0 → x ≡ kindByte (r .kind) → bodyLength (r .kind) ≤ length b →
@@ -82,6 +88,10 @@ module _ (P : Reading → Type 0) (x : ℕ) (b : List ℕ) (cases : Cases P (x �
       (taken x b (entryRecord (entryFromBody b)) n e h (entry-shaped _ (name-length b h)) (f, g) (λ w. entry-again b h))))
       (λ _. cases .refusal EntryName)
   body-cases kind.Emit e h = λ n. cases .emit (taken x b emitRecord n e h emit-shaped tt (λ w. refl))
+  body-cases kind.State e h =
+      check-cases (λ (a : Bool) (n : ℕ) (c : Checked). Q n (tookIf c (stateFromBody b))) (stateFromBody b) (λ c. cases .refusal c) (λ f n.
+      cases .state (stateFromBody b)
+      (taken x b (stateRecord (stateFromBody b)) n e h (state-shaped _) f (λ w. state-again b w h)))
 
   as-cases : (k : Kind) → x ≡ kindByte k → Q (cond (ltb (length b) (bodyLength k)) 1 (bodyNumber k b)) (readAs k b)
   unfolding readAs
@@ -105,6 +115,7 @@ read-either P b f g =
       variant = λ v. g (variantRecord v);
       entry = λ e. g (entryRecord e);
       emit = g emitRecord;
+      state = λ w. g (stateRecord w);
     })
 
 -- The reader's number is that of 01's table.

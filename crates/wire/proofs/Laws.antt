@@ -73,10 +73,11 @@ known kind.Key b e = rw e
 known kind.Variant b e = rw e
 known kind.Entry b e = rw e
 known kind.Emit b e = rw e
+known kind.State b e = rw e
 
-pub unknown : {n : ℕ} (b : List ℕ) → (n ≡ 1 → ⊥) → (n ≡ 2 → ⊥) → (n ≡ 3 → ⊥) → (n ≡ 4 → ⊥) →
+pub unknown : {n : ℕ} (b : List ℕ) → (n ≡ 1 → ⊥) → (n ≡ 2 → ⊥) → (n ≡ 3 → ⊥) → (n ≡ 4 → ⊥) → (n ≡ 5 → ⊥) →
     refused UnknownKind ≡ byKind n (λ k. readAs k b) (refused UnknownKind)
-unknown b p q r s = rw (ne-eqb _ _ p, ne-eqb _ _ q, ne-eqb _ _ r, ne-eqb _ _ s)
+unknown b p q r s t = rw (ne-eqb _ _ p, ne-eqb _ _ q, ne-eqb _ _ r, ne-eqb _ _ s, ne-eqb _ _ t)
 
 -- no byte, and some
 pub read-none : (l : List ℕ) → length l ≤ 0 → refused CutShort ≡ readRecord l

@@ -9,8 +9,10 @@ use lib.Seq.{length-take-le}
 use Rattle.values.specs.declared.Key.{Key}
 use Rattle.values.specs.declared.Variant.{Variant}
 use Rattle.values.specs.declared.Entry.{Entry}
+use Rattle.values.specs.declared.StateWrite.{StateWrite}
+use Rattle.states.proofs.Accepted.{good}
 use Rattle.wire.specs.Bodies.{bodyLength, recordLength, bodyBytes, recordBytes}
-use Rattle.wire.specs.Values.{keyRecord, variantRecord, entryRecord, emitRecord}
+use Rattle.wire.specs.Values.{keyRecord, variantRecord, entryRecord, emitRecord, stateRecord}
 use Rattle.wire.specs.Reading.{took, readBody, readAs, readRecord}
 use Rattle.wire.specs.Writing.{writeAnswer, afterWriting}
 use Rattle.wire.specs.declared.Kind.{Kind}
@@ -19,7 +21,8 @@ use Rattle.wire.specs.declared.Record.{Record}
 use Rattle.wire.specs.declared.Reading.{Reading}
 use Rattle.wire.specs.declared.ReadAnswer.the-variants.{Took}
 use Rattle.wire.specs.declared.WriteAnswer.the-variants.{Wrote}
-use Rattle.wire.proofs.Bodies.{Shaped, Bytes, Free, key-shaped, variant-shaped, entry-shaped, emit-shaped, body-length, key-back, specular-back, variant-back, entry-back}
+use Rattle.wire.proofs.Bodies.{Shaped, Bytes, Free, key-shaped, variant-shaped, entry-shaped, emit-shaped, state-shaped, body-length}
+use Rattle.wire.proofs.Bodies.{key-back, specular-back, variant-back, entry-back, state-back}
 use Rattle.wire.proofs.Laws.{known}
 use Rattle.wire.proofs.Found.{read-cases, read-taken}
 use Rattle.wire.proofs.Written.{fits-writes, wrote}
@@ -30,6 +33,7 @@ ownAs kind.Key r = keyRecord (r .key)
 ownAs kind.Variant r = variantRecord (r .variant)
 ownAs kind.Entry r = entryRecord (r .entry)
 ownAs kind.Emit r = emitRecord
+ownAs kind.State r = stateRecord (r .write)
 
 abbrev pub own : Record → Record
 own r = ownAs (r .kind) r
@@ -40,6 +44,7 @@ own-kind kind.Key r = refl
 own-kind kind.Variant r = refl
 own-kind kind.Entry r = refl
 own-kind kind.Emit r = refl
+own-kind kind.State r = refl
 
 -- a body of a value without a cause, whatever stands behind it, is read as that value
 module _ (r : Record) (x : List ℕ) (h : Shaped r) where
@@ -49,6 +54,7 @@ module _ (r : Record) (x : List ℕ) (h : Shaped r) where
   body-reads kind.Variant f = rw (variant-back (r .variant) x, f)
   body-reads kind.Entry f = rw (entry-back (r .entry) x (h .name), f .0, f .1)
   body-reads kind.Emit f = refl
+  body-reads kind.State f = rw (state-back (r .write) x, good (r .write) f)
 
   as-reads : (k : Kind) → Free k r → readAs k (bodyBytes k r ++ x) ≡ took (ownAs k r)
   unfolding readAs
@@ -68,12 +74,13 @@ own-reads-back r out n h a =
     bytes-read r _ h (w .0 .free)
     ∙ ap (λ (m : ℕ). record { answer = Took m; found = own r }) (ap recordLength (own-kind (r .kind) r) ∙ w .1)
 
--- A record as a user makes it: by `key_record`, `variant_record`, `entry_record` or `emit_record`.
+-- A record as a user makes it: by `key_record`, `variant_record`, `entry_record`, `emit_record` or `state_record`.
 pub data Made : Record → Type 0 where
   key : (k : Key) → Made (keyRecord k)
   variant : (v : Variant) → Made (variantRecord v)
   entry : (e : Entry) → Made (entryRecord e)
   emit : Made emitRecord
+  state : (w : StateWrite) → Made (stateRecord w)
 
 made-own : (r : Record) → Made r → own r ≡ r
 unfolding ownAs
@@ -81,6 +88,7 @@ made-own r (key k) = refl
 made-own r (variant v) = refl
 made-own r (entry e) = refl
 made-own r emit = refl
+made-own r (state w) = refl
 
 -- Wherever the writer writes r, the reader finds r again, in as many bytes as were written.
 abbrev pub ReadsBack : Record → Type 0
@@ -92,7 +100,7 @@ pub written-reads-back : (r : Record) → Made r → Shaped r → ReadsBack r
 written-reads-back r m h out n a =
     own-reads-back r out n h a ∙ ap (λ (x : Record). record { answer = Took n; found = x }) (made-own r m)
 
--- so a key, a variant, an entry and a request for a text do
+-- so a key, a variant, an entry, a request for a text and a state write do
 pub key-reads-back : (k : Key) → length (k .stages) ≡ 8 → ReadsBack (keyRecord k)
 key-reads-back k h = written-reads-back (keyRecord k) (key k) (key-shaped k h)
 
@@ -104,6 +112,9 @@ entry-reads-back e h = written-reads-back (entryRecord e) (entry e) (entry-shape
 
 pub emit-reads-back : ReadsBack emitRecord
 emit-reads-back = written-reads-back emitRecord emit emit-shaped
+
+pub state-reads-back : (w : StateWrite) → ReadsBack (stateRecord w)
+state-reads-back w = written-reads-back (stateRecord w) (state w) (state-shaped w)
 
 -- The record that was read from b can be written into every buffer that has room for its n bytes, and gives these n bytes again.
 abbrev pub WritesBack : List ℕ → Type 0
@@ -132,4 +143,5 @@ read-made b =
       variant = λ v t. variant v;
       entry = λ e t. entry e;
       emit = λ t. emit;
+      state = λ w t. state w;
     })

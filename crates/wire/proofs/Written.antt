@@ -1,5 +1,6 @@
 -- What the writer answers, by cases: a refusal with its number, or the length of a record that is free of causes and fits.
 use mathlib.Core.Path.{_≡_, refl, sym, _∙_}
+use mathlib.Core.Bool.{Bool, cond}
 use Prim.Native.Nat.{ℕ, _≤_}
 use native.Mathlib.Omega.{arith}
 use borrow.Author.Tests.{le-ltb, ltb-false}
@@ -10,8 +11,10 @@ use Rattle.values.specs.Entries.{entryGood}
 use Rattle.values.specs.Words.{entryReserved}
 use Rattle.values.specs.declared.Refusal.{Refusal}
 use Rattle.values.specs.declared.Refusal.the-variants.{StageFlags, VariantFlags, EntryName, ReservedWord, NoRoom}
+use Rattle.states.specs.declared.Checked.{Checked}
+use Rattle.states.proofs.Accepted.{check-cases, good}
 use Rattle.wire.specs.Bodies.{recordLength}
-use Rattle.wire.specs.Writing.{writeAs, writeInto, writeAnswer, writeNumber, valueNumber, writtenNumber}
+use Rattle.wire.specs.Writing.{writeIf, writeAs, writeInto, writeAnswer, writeNumber, valueNumber, writtenNumber}
 use Rattle.wire.specs.declared.Kind.{Kind}
 use Rattle.wire.specs.declared.Kind.the-variants as kind
 use Rattle.wire.specs.declared.Record.{Record}
@@ -27,6 +30,7 @@ free-writes kind.Key r a e f = rw (e, f)
 free-writes kind.Variant r a e f = rw (e, f)
 free-writes kind.Entry r a e f = rw (e, f .0, f .1)
 free-writes kind.Emit r a e f = rw e
+free-writes kind.State r a e f = rw (e, good (r .write) f)
 
 -- and with room for it
 pub fits-writes : (r : Record) (room : ℕ) → Free (r .kind) r → recordLength (r .kind) ≤ room → writeAnswer r room ≡ Wrote (recordLength (r .kind))
@@ -41,6 +45,7 @@ value-cases Q kind.Variant r n a p q = either Q (variantFlagsBad (r .variant)) _
 value-cases Q kind.Entry r n a p q =
     either Q (entryGood (r .entry)) _ _ _ _ (λ e. either Q (entryReserved (r .entry)) _ _ _ _ (λ _. p ReservedWord) (λ f. q (e, f))) (λ _. p EntryName)
 value-cases Q kind.Emit r n a p q = q tt
+value-cases Q kind.State r n a p q = check-cases (λ (b : Bool) (m : ℕ) (c : Checked). Q (cond b n m) (writeIf c a)) (r .write) p q
 
 -- what is known of the record that was written into a buffer of a length
 pub record Written (r : Record) (room : ℕ) : Type 0 where

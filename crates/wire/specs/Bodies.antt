@@ -8,23 +8,26 @@ use Rattle.values.specs.declared.Stage.{Stage}
 use Rattle.values.specs.declared.Key.{Key}
 use Rattle.values.specs.declared.Variant.{Variant}
 use Rattle.values.specs.declared.Entry.{Entry}
+use Rattle.values.specs.declared.StateWrite.{StateWrite}
 use Rattle.wire.specs.declared.Kind.{Kind}
 use Rattle.wire.specs.declared.Kind.the-variants as kind
 use Rattle.wire.specs.declared.Record.{Record}
 
--- 01: "A kind byte": "1, key", "2, variant", "3, entry", "4, emit"
+-- 01: "A kind byte": "1, key", "2, variant", "3, entry", "4, emit"; 02, One: "kind 5"
 abbrev pub kindByte : Kind → ℕ
 kindByte kind.Key = 1
 kindByte kind.Variant = 2
 kindByte kind.Entry = 3
 kindByte kind.Emit = 4
+kindByte kind.State = 5
 
--- "then a body": "key, 58 bytes", "variant, 19", "entry, 33", "emit, 0 bytes"
+-- "then a body": "key, 58 bytes", "variant, 19", "entry, 33", "emit, 0 bytes"; 02, One: "body 6"
 abbrev pub bodyLength : Kind → ℕ
 bodyLength kind.Key = 58
 bodyLength kind.Variant = 19
 bodyLength kind.Entry = 33
 bodyLength kind.Emit = 0
+bodyLength kind.State = 6
 
 -- the kind byte and the body
 abbrev pub recordLength : Kind → ℕ
@@ -111,11 +114,27 @@ entryBytes e = e .len ∷ e .name
 unfoldable pub entryFromBody : List ℕ → Entry
 entryFromBody b = record { len = getD b 0 0; name = take 32 (drop 1 b) }
 
+-- 02, One: "value in four bytes, low byte first"
+abbrev pub wordBytes : ℕ → List ℕ
+wordBytes v = v % 256 ∷ v / 256 % 256 ∷ v / 256 / 256 % 256 ∷ v / 256 / 256 / 256 ∷ []
+
+-- the word whose low byte is byte i
+abbrev pub wordAt : List ℕ → ℕ → ℕ
+wordAt b i = getD b i 0 + 256 * (getD b (i + 1) 0 + 256 * (getD b (i + 2) 0 + 256 * getD b (i + 3) 0))
+
+-- 02, One: "stage, type, value"
+abbrev pub stateBytes : StateWrite → List ℕ
+stateBytes w = w .stage ∷ w .state ∷ wordBytes (w .value)
+
+unfoldable pub stateFromBody : List ℕ → StateWrite
+stateFromBody b = record { stage = getD b 0 0; state = getD b 1 0; value = wordAt b 2 }
+
 unfoldable pub bodyBytes : Kind → Record → List ℕ
 bodyBytes kind.Key r = keyBytes (r .key)
 bodyBytes kind.Variant r = variantBytes (r .variant)
 bodyBytes kind.Entry r = entryBytes (r .entry)
 bodyBytes kind.Emit r = []
+bodyBytes kind.State r = stateBytes (r .write)
 
 -- 01: "A kind byte, then a body"
 abbrev pub recordBytes : Record → List ℕ

@@ -1,4 +1,4 @@
--- Reading the record at the front of some bytes, and its refusals 1 to 6 and 13.
+-- Reading the record at the front of some bytes, and its refusals 1 to 6 and 10 to 13.
 -- 01: "Reading a record is a call without held values"
 use Prim.Native.Nat.{ℕ}
 use mathlib.Core.Bool.{cond}
@@ -11,8 +11,12 @@ use Rattle.values.specs.Entries.{entryGood}
 use Rattle.values.specs.Words.{entryReserved}
 use Rattle.values.specs.declared.Refusal.{Refusal}
 use Rattle.values.specs.declared.Refusal.the-variants.{CutShort, UnknownKind, StageFlags, SpecularAdd, VariantFlags, EntryName, ReservedWord}
-use Rattle.wire.specs.Bodies.{kindByte, bodyLength, recordLength, specularByte, keyFromBody, variantFromBody, entryFromBody}
-use Rattle.wire.specs.Values.{keyRecord, variantRecord, entryRecord, emitRecord}
+use Rattle.values.specs.declared.StateWrite.{StateWrite}
+use Rattle.states.specs.Writes.{checkedWrite, stateWriteNumber}
+use Rattle.states.specs.declared.Checked.{Checked}
+use Rattle.states.specs.declared.Checked.the-variants.{Good, Bad}
+use Rattle.wire.specs.Bodies.{kindByte, bodyLength, recordLength, specularByte, keyFromBody, variantFromBody, entryFromBody, stateFromBody}
+use Rattle.wire.specs.Values.{keyRecord, variantRecord, entryRecord, emitRecord, stateRecord}
 use Rattle.wire.specs.declared.Kind.{Kind}
 use Rattle.wire.specs.declared.Kind.the-variants as kind
 use Rattle.wire.specs.declared.Record.{Record}
@@ -25,7 +29,8 @@ abbrev pub byKind : {A : Type 0} → ℕ → (Kind → A) → A → A
 byKind n known unknown =
     cond (eqb n (kindByte kind.Key)) (known kind.Key)
     (cond (eqb n (kindByte kind.Variant)) (known kind.Variant)
-    (cond (eqb n (kindByte kind.Entry)) (known kind.Entry) (cond (eqb n (kindByte kind.Emit)) (known kind.Emit) unknown)))
+    (cond (eqb n (kindByte kind.Entry)) (known kind.Entry)
+    (cond (eqb n (kindByte kind.Emit)) (known kind.Emit) (cond (eqb n (kindByte kind.State)) (known kind.State) unknown))))
 
 -- What is found.
 
@@ -37,8 +42,13 @@ refused c = record { answer = Refused c; found = emitRecord }
 abbrev pub took : Record → Reading
 took r = record { answer = Took (recordLength (r .kind)); found = r }
 
+-- a state write, or its refusal
+abbrev pub tookIf : Checked → StateWrite → Reading
+tookIf Good w = took (stateRecord w)
+tookIf (Bad c) w = refused c
+
 -- 3, "a stage flag bit 2 to 7", before 4, "specular above 1"; 5, "variant flag bit 6 or 7"; 6, what is wrong with an entry, before 13, a word that it may
--- not be
+-- not be; 10, 11 and 12 of a state write, in that order (states/specs/Writes)
 unfoldable pub readBody : Kind → List ℕ → Reading
 readBody kind.Key b =
     cond (stageFlagsBad (keyFromBody b .stages)) (refused StageFlags)
@@ -48,12 +58,13 @@ readBody kind.Entry b =
     cond (entryGood (entryFromBody b))
     (cond (entryReserved (entryFromBody b)) (refused ReservedWord) (took (entryRecord (entryFromBody b)))) (refused EntryName)
 readBody kind.Emit b = took emitRecord
+readBody kind.State b = tookIf (checkedWrite (stateFromBody b)) (stateFromBody b)
 
 -- 1: "body cut short"
 unfoldable pub readAs : Kind → List ℕ → Reading
 readAs k b = cond (ltb (length b) (bodyLength k)) (refused CutShort) (readBody k b)
 
--- 1: "no byte"; 2: "kind not 1 to 4". 01: "Kind comes before length, length before the body's causes, 3 before 4."
+-- 1: "no byte"; 2: "kind not 1 to 4", and not 5. 01: "Kind comes before length, length before the body's causes, 3 before 4."
 unfoldable pub readRecord : List ℕ → Reading
 readRecord [] = refused CutShort
 readRecord (n ∷ b) = byKind n (λ k. readAs k b) (refused UnknownKind)
@@ -71,6 +82,7 @@ bodyNumber kind.Key b = cond (stageFlagsBad (keyFromBody b .stages)) 3 (cond (lt
 bodyNumber kind.Variant b = cond (variantFlagsBad (variantFromBody b)) 5 0
 bodyNumber kind.Entry b = cond (entryGood (entryFromBody b)) (cond (entryReserved (entryFromBody b)) 13 0) 6
 bodyNumber kind.Emit b = 0
+bodyNumber kind.State b = stateWriteNumber (stateFromBody b)
 
 unfoldable pub recordNumber : List ℕ → ℕ
 recordNumber [] = 1

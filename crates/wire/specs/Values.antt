@@ -5,6 +5,7 @@ use Rattle.values.specs.declared.Stage.{Stage}
 use Rattle.values.specs.declared.Key.{Key}
 use Rattle.values.specs.declared.Variant.{Variant}
 use Rattle.values.specs.declared.Entry.{Entry}
+use Rattle.values.specs.declared.StateWrite.{StateWrite}
 use Rattle.wire.specs.declared.Kind.{Kind}
 use Rattle.wire.specs.declared.Kind.the-variants as kind
 use Rattle.wire.specs.declared.Record.{Record}
@@ -37,18 +38,24 @@ blankVariant =
 unfoldable pub blankEntry : Entry
 blankEntry = record { len = 0; name = replicate 32 0 }
 
-abbrev pub blankRecord : Kind → Record
-blankRecord k = record { kind = k; key = blankKey; variant = blankVariant; entry = blankEntry }
+abbrev pub blankWrite : StateWrite
+blankWrite = record { stage = 0; state = 0; value = 0 }
 
--- The records of a key, a variant and an entry, and the record that asks for a text.
+abbrev pub blankRecord : Kind → Record
+blankRecord k = record { kind = k; key = blankKey; variant = blankVariant; entry = blankEntry; write = blankWrite }
+
+-- The records of a key, a variant and an entry, the record that asks for a text, and the record of a state write.
 abbrev pub keyRecord : Key → Record
-keyRecord k = record { kind = kind.Key; key = k; variant = blankVariant; entry = blankEntry }
+keyRecord k = record { kind = kind.Key; key = k; variant = blankVariant; entry = blankEntry; write = blankWrite }
 
 abbrev pub variantRecord : Variant → Record
-variantRecord v = record { kind = kind.Variant; key = blankKey; variant = v; entry = blankEntry }
+variantRecord v = record { kind = kind.Variant; key = blankKey; variant = v; entry = blankEntry; write = blankWrite }
 
 abbrev pub entryRecord : Entry → Record
-entryRecord e = record { kind = kind.Entry; key = blankKey; variant = blankVariant; entry = e }
+entryRecord e = record { kind = kind.Entry; key = blankKey; variant = blankVariant; entry = e; write = blankWrite }
 
 abbrev pub emitRecord : Record
 emitRecord = blankRecord kind.Emit
+
+abbrev pub stateRecord : StateWrite → Record
+stateRecord w = record { kind = kind.State; key = blankKey; variant = blankVariant; entry = blankEntry; write = w }

@@ -1,8 +1,9 @@
-//! Records: the bytes of keys, variants, entries and emit requests, read and written.
+//! Records: the bytes of keys, variants, entries, emit requests and state writes, read and written.
 pub use values::Combiner;
 pub use values::Entry;
 pub use values::Key;
 pub use values::Stage;
+pub use values::StateWrite;
 pub use values::Variant;
 
 pub mod make;
@@ -18,6 +19,7 @@ pub enum Kind {
     Variant,
     Entry,
     Emit,
+    State,
 }
 
 // A record by value. It is the value of its kind; the others are looked at nowhere, and blank in a record that was read.
@@ -26,6 +28,7 @@ pub struct Record {
     pub key: Key,
     pub variant: Variant,
     pub entry: Entry,
+    pub write: StateWrite,
 }
 
 pub enum ReadAnswer {
@@ -55,6 +58,8 @@ pub const KIND_ENTRY: u8 = 3;
 
 pub const KIND_EMIT: u8 = 4;
 
+pub const KIND_STATE: u8 = 5;
+
 // How many bytes follow the kind byte.
 const KEY_BODY: usize = 58;
 
@@ -64,6 +69,8 @@ const ENTRY_BODY: usize = 33;
 
 const EMIT_BODY: usize = 0;
 
+const STATE_BODY: usize = 6;
+
 pub fn kind_byte(kind: Kind) -> u8
     ensures { λ r. ⌜ r ≡ kindByte kind ⌝ }
 {
@@ -72,6 +79,7 @@ pub fn kind_byte(kind: Kind) -> u8
         Kind::Variant => KIND_VARIANT,
         Kind::Entry => KIND_ENTRY,
         Kind::Emit => KIND_EMIT,
+        Kind::State => KIND_STATE,
     }
 }
 
@@ -84,6 +92,7 @@ pub fn body_length(kind: Kind) -> usize
         Kind::Variant => VARIANT_BODY,
         Kind::Entry => ENTRY_BODY,
         Kind::Emit => EMIT_BODY,
+        Kind::State => STATE_BODY,
     }
 }
 

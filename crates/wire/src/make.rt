@@ -5,9 +5,10 @@ use values::Combiner;
 use values::Entry;
 use values::Key;
 use values::Stage;
+use values::StateWrite;
 use values::Variant;
 ghost use mathlib.Core.Path.{_≡_};
-ghost use Rattle.wire.specs.Values.{blankRecord, blankStage, emitRecord, entryRecord, keyRecord, variantRecord};
+ghost use Rattle.wire.specs.Values.{blankRecord, blankStage, emitRecord, entryRecord, keyRecord, stateRecord, variantRecord};
 
 pub(crate) fn blank_stage() -> Stage
     ensures { λ r. ⌜ r ≡ blankStage ⌝ }
@@ -53,11 +54,17 @@ pub fn blank_record(kind: Kind) -> Record
         len: 0,
         name: [0u8; 32],
     };
+    let write = StateWrite {
+        stage: 0,
+        state: 0,
+        value: 0,
+    };
     Record {
         kind: kind,
         key: key,
         variant: variant,
         entry: entry,
+        write: write,
     }
 }
 
@@ -89,4 +96,12 @@ pub fn emit_record() -> Record
     ensures { λ r. ⌜ r ≡ emitRecord ⌝ }
 {
     blank_record(Kind::Emit)
+}
+
+pub fn state_record(write: StateWrite) -> Record
+    ensures { λ r. ⌜ r ≡ stateRecord write ⌝ }
+{
+    let mut made = blank_record(Kind::State);
+    made.write = write;
+    made
 }

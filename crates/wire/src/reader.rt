@@ -2,6 +2,7 @@
 use crate::KIND_EMIT;
 use crate::KIND_ENTRY;
 use crate::KIND_KEY;
+use crate::KIND_STATE;
 use crate::KIND_VARIANT;
 use crate::Kind;
 use crate::ReadAnswer;
@@ -12,22 +13,26 @@ use crate::make::blank_stage;
 use crate::make::emit_record;
 use crate::make::entry_record;
 use crate::make::key_record;
+use crate::make::state_record;
 use crate::make::variant_record;
 use crate::record_length;
 use admission::entry_good;
 use admission::entry_reserved;
 use admission::stage_flags_bad;
 use admission::variant_flags_bad;
+use states::Checked;
+use states::check;
 use values::Combiner;
 use values::Entry;
 use values::Key;
 use values::Refusal;
 use values::Stage;
+use values::StateWrite;
 use values::Variant;
 ghost use Prim.Native.Nat.{_+_, _≤_, _<_};
 ghost use mathlib.Core.Path.{_≡_};
 ghost use lib.ListN.{drop, length};
-ghost use Rattle.wire.specs.Bodies.{bodyLength, entryFromBody, keyFromBody, maskAt, stageFromBytes, stagesFromBytes, variantFromBody};
+ghost use Rattle.wire.specs.Bodies.{bodyLength, entryFromBody, keyFromBody, maskAt, stageFromBytes, stagesFromBytes, stateFromBody, variantFromBody, wordAt};
 ghost use Rattle.wire.specs.Reading.{byKind, readAs, readBody, readNumber, readRecord, recordNumber, refused, took};
 ghost use Rattle.values.specs.declared.Refusal.the-variants.{UnknownKind};
 
@@ -140,6 +145,30 @@ pub fn entry_from_body(body: &[u8]) -> Entry
     }
 }
 
+// The word of the four bytes at a place, the low byte first.
+fn word_at(body: &[u8], at: usize) -> u32
+    requires { ⌜ at + 3 < length (now body) ⌝ }
+    ensures { λ r. ⌜ r ≡ wordAt (now (body .entry)) at ⌝ }
+{
+    let a = body[at] as u32;
+    let b = body[at + 1] as u32;
+    let c = body[at + 2] as u32;
+    let d = body[at + 3] as u32;
+    a + 256 * (b + 256 * (c + 256 * d))
+}
+
+pub fn state_from_body(body: &[u8]) -> StateWrite
+    requires { ⌜ bodyLength Kind.State ≤ length (now body) ⌝ }
+    ensures { λ r. ⌜ r ≡ stateFromBody (now (body .entry)) ⌝ }
+{
+    let value = word_at(body, 2);
+    StateWrite {
+        stage: body[0],
+        state: body[1],
+        value: value,
+    }
+}
+
 fn refuse(refusal: Refusal) -> Reading
     ensures { λ r. ⌜ r ≡ refused refusal ⌝ }
 {
@@ -201,6 +230,17 @@ fn read_entry(body: &[u8]) -> Reading
     take_record(entry_record(entry))
 }
 
+fn read_state(body: &[u8]) -> Reading
+    requires { ⌜ bodyLength Kind.State ≤ length (now body) ⌝ }
+    ensures { λ r. ⌜ r ≡ readBody Kind.State (now (body .entry)) ⌝ }
+{
+    let write = state_from_body(body);
+    match check(write) {
+        Checked::Bad(refusal) => refuse(refusal),
+        Checked::Good => take_record(state_record(write)),
+    }
+}
+
 fn read_as(kind: Kind, body: &[u8]) -> Reading
     ensures { λ r. ⌜ r ≡ readAs kind (now (body .entry)) ⌝ }
 {
@@ -212,6 +252,7 @@ fn read_as(kind: Kind, body: &[u8]) -> Reading
         Kind::Variant => read_variant(body),
         Kind::Entry => read_entry(body),
         Kind::Emit => take_record(emit_record()),
+        Kind::State => read_state(body),
     }
 }
 
@@ -224,6 +265,7 @@ fn read_kind(byte: u8, body: &[u8]) -> Reading
         KIND_VARIANT => read_as(Kind::Variant, body),
         KIND_ENTRY => read_as(Kind::Entry, body),
         KIND_EMIT => read_as(Kind::Emit, body),
+        KIND_STATE => read_as(Kind::State, body),
         _ => refuse(Refusal::UnknownKind),
     }
 }

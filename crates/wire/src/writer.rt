@@ -2,6 +2,7 @@
 use crate::KIND_EMIT;
 use crate::KIND_ENTRY;
 use crate::KIND_KEY;
+use crate::KIND_STATE;
 use crate::KIND_VARIANT;
 use crate::Kind;
 use crate::Record;
@@ -11,18 +12,21 @@ use admission::entry_good;
 use admission::entry_reserved;
 use admission::stage_flags_bad;
 use admission::variant_flags_bad;
+use states::Checked;
+use states::check;
 use text::put;
 use values::Entry;
 use values::Key;
 use values::Refusal;
 use values::Stage;
+use values::StateWrite;
 use values::Variant;
 ghost use mathlib.Core.Path.{_≡_};
 ghost use mathlib.Core.List.{[], _∷_};
 ghost use lib.ListN.{length};
 ghost use Rattle.text.specs.Text.{raw};
 ghost use Rattle.text.specs.Buffer.{Wrote};
-ghost use Rattle.wire.specs.Bodies.{entryBytes, keyBytes, kindByte, maskBytes, masksBytes, recordBytes, stageBytes, stagesBytes, variantBytes};
+ghost use Rattle.wire.specs.Bodies.{entryBytes, keyBytes, kindByte, maskBytes, masksBytes, recordBytes, stageBytes, stagesBytes, stateBytes, variantBytes};
 ghost use Rattle.wire.specs.Writing.{afterWriting, writeAnswer, writeInto, writeNumber, writtenNumber};
 
 fn put_stage(out: &mut [u8], at: usize, s: Stage) -> usize
@@ -108,6 +112,22 @@ fn put_emit(out: &mut [u8]) -> usize
     put(out, 0, &only)
 }
 
+fn put_state(out: &mut [u8], write: StateWrite) -> usize
+    ensures { λ r. ⌜ Wrote (now (out .entry)) 0 (now (out .exit)) r (raw (kindByte Kind.State ∷ stateBytes write)) ⌝ }
+{
+    let value = write.value;
+    let all = [
+        KIND_STATE,
+        write.stage,
+        write.state,
+        (value % 256) as u8,
+        (value / 256 % 256) as u8,
+        (value / 256 / 256 % 256) as u8,
+        (value / 256 / 256 / 256) as u8,
+    ];
+    put(out, 0, &all)
+}
+
 fn put_record(out: &mut [u8], made: Record) -> usize
     ensures { λ r. ⌜ Wrote (now (out .entry)) 0 (now (out .exit)) r (raw (recordBytes made)) ⌝ }
 {
@@ -115,11 +135,13 @@ fn put_record(out: &mut [u8], made: Record) -> usize
     let key = made.key;
     let variant = made.variant;
     let entry = made.entry;
+    let write = made.write;
     match kind {
         Kind::Key => put_key(out, key),
         Kind::Variant => put_variant(out, variant),
         Kind::Entry => put_entry(out, entry),
         Kind::Emit => put_emit(out),
+        Kind::State => put_state(out, write),
     }
 }
 
@@ -134,7 +156,7 @@ fn judge_room(kind: Kind, room: usize) -> WriteAnswer
     WriteAnswer::Wrote(n)
 }
 
-// What is answered, before anything is written: 3, 5 or 6 of the value, else what is answered for one that is free of them.
+// What is answered, before anything is written: a cause of the record's value, else what is answered for one that is free of causes.
 fn judge(made: Record, room: usize) -> WriteAnswer
     ensures { λ r. ⌜ r ≡ writeAnswer made room ⌝ }
 {
@@ -142,6 +164,7 @@ fn judge(made: Record, room: usize) -> WriteAnswer
     let key = made.key;
     let variant = made.variant;
     let entry = made.entry;
+    let write = made.write;
     let free = judge_room(kind, room);
     match kind {
         Kind::Key => {
@@ -163,6 +186,11 @@ fn judge(made: Record, room: usize) -> WriteAnswer
             }
         }
         Kind::Emit => {}
+        Kind::State => {
+            if let Checked::Bad(refusal) = check(write) {
+                return WriteAnswer::Refused(refusal);
+            }
+        }
     }
     free
 }

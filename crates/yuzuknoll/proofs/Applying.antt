@@ -25,7 +25,7 @@ use Rattle.wire.proofs.Kind.{the-type}
 use Rattle.records.specs.Applying.{holdsAll, emitNumber, appliedNumber}
 use Rattle.yuzuknoll.specs.Lent.{after, recordNumbers, ReportedDemand3}
 use Rattle.yuzuknoll.specs.Records.{kindIn}
-use Rattle.yuzuknoll.specs.Applying.{placeOf, heldBody, isHeld, heldOf, onEmit, heldWith, textWith, noResult, resultWith, appliedNumbers}
+use Rattle.yuzuknoll.specs.Applying.{placeOf, heldBody, isHeld, heldOf, onEmit, partWith, heldWith, textWith, noResult, resultWith, appliedNumbers}
 use Rattle.yuzuknoll.proofs.Lent.{not-zero, left, first-refused, first-passed}
 use Rattle.yuzuknoll.proofs.Checking.{taken}
 use Rattle.yuzuknoll.proofs.Emitting.{Emits, admitted}
@@ -49,7 +49,7 @@ both true b e = (refl, e)
 both false b e = absurd (let z : _≡_ {A = ℕ} 0 1 = cc in omega arith)
 
 -- a part that is held has a body without a cause
-held-free : (k : Kind) (held : List ℕ) → isHeld k held ≡ true → bodyNumber k (heldBody k held) ≡ 0
+pub held-free : (k : Kind) (held : List ℕ) → isHeld k held ≡ true → bodyNumber k (heldBody k held) ≡ 0
 held-free k held e = eqb-true _ _ (both (eqb (getD held (placeOf k) 0) (kindByte k)) _ e .1)
 
 -- values read from bytes that hold all three
@@ -116,24 +116,27 @@ other kind.Key v x y = refl
 other kind.Variant v x y = refl
 other kind.Entry v x y = refl
 other kind.Emit v x y = absurd (omega arith)
+other kind.State v x y = refl
 
 emit-byte : (k : Kind) (n : ℕ) → onEmit k n 0 ≡ cond (eqb (kindByte k) 4) n 0
 emit-byte kind.Key n = refl
 emit-byte kind.Variant n = refl
 emit-byte kind.Entry n = refl
 emit-byte kind.Emit n = refl
+emit-byte kind.State n = refl
 
-pub no-emit : (k : Kind) → OneOf (0 ∷ 1 ∷ 2 ∷ []) (tagOf the-type k) → isEmit k ≡ 0
-no-emit kind.Key h = refl
-no-emit kind.Variant h = refl
-no-emit kind.Entry h = refl
-no-emit kind.Emit h = absurd (miss (0 ∷ 1 ∷ 2 ∷ []) 3 tt h)
+-- one that is kept: its own bytes stand over its part
+pub record Keeps (k : Kind) : Type 0 where
+  pub other : isEmit k ≡ 0
+  pub room : placeOf k + recordLength k ≤ 113
+  pub part : (b held : List ℕ) → partWith k b held ≡ take (recordLength k) b
 
-pub has-room : (k : Kind) → isEmit k ≡ 0 → placeOf k + recordLength k ≤ 113
-has-room kind.Key v = omega arith
-has-room kind.Variant v = omega arith
-has-room kind.Entry v = omega arith
-has-room kind.Emit v = absurd (omega arith)
+pub keeps : (k : Kind) → OneOf (0 ∷ 1 ∷ 2 ∷ []) (tagOf the-type k) → Keeps k
+keeps kind.Key h = record { other = refl; room = omega arith; part = λ b held. refl }
+keeps kind.Variant h = record { other = refl; room = omega arith; part = λ b held. refl }
+keeps kind.Entry h = record { other = refl; room = omega arith; part = λ b held. refl }
+keeps kind.Emit h = absurd (miss (0 ∷ 1 ∷ 2 ∷ []) 3 tt h)
+keeps kind.State h = absurd (miss (0 ∷ 1 ∷ 2 ∷ []) 4 tt h)
 
 -- one that leaves held bytes as they are
 pub either-way : (t : Bool) (l : List ℕ) → l ≡ cond t l l
@@ -168,9 +171,17 @@ module _ (held b out apd : List ℕ) where
     unfolding heldWith
     apply-emitted {n} f s = by-kind (rw f (s .0)) (rw f (either-way (eqb n 0) held)) (rw f (s .1 .0)) (rw f (s .1 .1 .0)) (λ e _. s .1 .1 .1 e)
 
-    pub apply-kept : {n : ℕ} {held′ apd′ : List ℕ} → isEmit k ≡ 0 → n ≡ 0 → held′ ≡ sets held (placeOf k) (take (recordLength k) b) →
+    held-now : {n : ℕ} {held′ apd′ : List ℕ} → isEmit k ≡ 0 → n ≡ 0 → held′ ≡ heldWith k b held → apd′ ≡ recordNumbers k ++ noResult →
+        Applies n held′ out apd′
+    unfolding textWith resultWith
+    held-now v e p q =
+        by-kind (rw (other k v) e) (rw e p) (rw (e, other k v)) (rw (e, other k v) q) (λ _ f. absurd (let w = rw f at v in omega arith))
+
+    pub apply-kept : {n : ℕ} {held′ apd′ : List ℕ} → Keeps k → n ≡ 0 → held′ ≡ sets held (placeOf k) (take (recordLength k) b) →
         apd′ ≡ recordNumbers k ++ noResult → Applies n held′ out apd′
-    unfolding heldWith textWith resultWith
-    apply-kept v e p q =
-        by-kind (rw (other k v) e) (rw (e, other k v) p) (rw (e, other k v)) (rw (e, other k v) q)
-        (λ _ f. absurd (let w = rw f at v in omega arith))
+    unfolding heldWith
+    apply-kept v e p q = held-now (v .other) e (rw (other k (v .other), v .part b held) p) q
+
+    pub apply-altered : {n : ℕ} {held′ apd′ : List ℕ} → k ≡ kind.State → n ≡ 0 → held′ ≡ heldWith kind.State b held →
+        apd′ ≡ recordNumbers kind.State ++ noResult → Applies n held′ out apd′
+    apply-altered f e p q = held-now (rw f refl) e (rw f p) (rw f q)

@@ -85,7 +85,7 @@ ofVariant five = cond five 5 0
 abbrev ofEntry : Bool → Bool → ℕ
 ofEntry good word = cond good (cond word 13 0) 6
 
-key-bits : (three four : Bool) → ofKey three four ≡ 0 → three ≡ false
+pub key-bits : (three four : Bool) → ofKey three four ≡ 0 → three ≡ false
 key-bits true four e = absurd (omega arith)
 key-bits false four e = refl
 

@@ -10,24 +10,27 @@ use lib.Dec.{eqb, ltb}
 use lib.ListN.{length, take, drop, getD, set, length-drop}
 use lib.Seq.{drop-drop, getD-take, getD-drop, sets, sets-eq, length-sets, length-take-le, take-add, take-set-le, drop-set-lt, drop-at, take-at}
 use Rattle.shader.specs.Results.{answerOf}
+use Rattle.values.specs.Flags.{stageFlagsBad}
 use Rattle.values.specs.Refusals.{numberOf}
 use Rattle.values.specs.declared.Key.{Key}
 use Rattle.values.specs.declared.Variant.{Variant}
 use Rattle.values.specs.declared.Entry.{Entry}
+use Rattle.values.specs.declared.StateWrite.{StateWrite}
+use Rattle.states.specs.Writes.{writeApplied}
 use Rattle.values.specs.declared.Answer.{Answer}
 use Rattle.values.specs.declared.Answer.the-variants as answer
 use Rattle.values.specs.declared.Refusal.{Refusal}
 use Rattle.values.specs.declared.Refusal.the-variants.{EmitTooEarly}
 use Rattle.wire.specs.Bodies.{kindByte, bodyLength, recordLength, specularByte, keyFromBody, variantFromBody, entryFromBody, keyBytes, variantBytes, entryBytes, bodyBytes, recordBytes}
 use Rattle.wire.specs.Reading.{refused, took, bodyNumber, recordNumber}
-use Rattle.wire.specs.Values.{keyRecord, variantRecord, entryRecord, emitRecord}
+use Rattle.wire.specs.Values.{keyRecord, variantRecord, entryRecord, emitRecord, stateRecord}
 use Rattle.wire.specs.declared.Kind.{Kind}
 use Rattle.wire.specs.declared.Kind.the-variants as kind
 use Rattle.wire.specs.declared.Reading.{Reading}
 use Rattle.wire.specs.declared.Record.{Record}
-use Rattle.wire.proofs.Bodies.{Bytes, record-length, key-back, specular-back, variant-back, entry-back}
+use Rattle.wire.proofs.Bodies.{Bytes, key-shaped, record-length, key-back, specular-back, variant-back, entry-back}
 use Rattle.wire.proofs.Found.{Taken, read-cases}
-use Rattle.records.specs.Applying.{holdsAll, holding, emissionAnswer, applyAs, applyRead, heldAfter, applied, appliedNumber}
+use Rattle.records.specs.Applying.{holdsAll, keyOrDefaults, holding, emissionAnswer, applyAs, applyRead, heldAfter, applied, appliedNumber}
 use Rattle.records.specs.declared.Held.{Held}
 use Rattle.records.specs.declared.ApplyAnswer.the-variants.{Refused}
 use Rattle.yuzuknoll.specs.Lent.{after}
@@ -35,6 +38,7 @@ use Rattle.yuzuknoll.specs.Records.{kindIn}
 use Rattle.yuzuknoll.specs.Applying.{placeOf, heldBody, heldOf, heldWith}
 use Rattle.yuzuknoll.proofs.Lent.{not-zero}
 use Rattle.yuzuknoll.proofs.Applying.{either-way}
+use Rattle.yuzuknoll.proofs.Altering.{state-in, altered-eight, altered-free}
 
 -- Bytes laid over a list: what stands before them and behind them stays, and they stand in their place.
 
@@ -145,6 +149,30 @@ module _ (held v : List ℕ) (h : length held ≡ 113) where
       ∙ rw
       (before held v 79 kind.Key (omega arith) (omega arith), before held v 79 kind.Variant (omega arith) (omega arith), laid kind.Entry held v e (omega arith))
 
+-- The record of a key without a cause, laid over the front of held bytes: the key is held, and the rest stays.
+module _ (held : List ℕ) (h : length held ≡ 113) (k : Key) (l : length (k .stages) ≡ 8) (f : stageFlagsBad (k .stages) ≡ false) where
+  abbrev withKey : Held
+  withKey =
+      record {
+        «has_key» = true;
+        key = k;
+        «has_variant» = heldOf held .«has_variant»;
+        variant = heldOf held .variant;
+        «has_entry» = heldOf held .«has_entry»;
+        entry = heldOf held .entry;
+      }
+
+  key-put : heldOf (sets held 0 (recordBytes (keyRecord k))) ≡ withKey
+  unfolding bodyBytes bodyNumber
+  key-put =
+      rw (
+        key-laid held (recordBytes (keyRecord k)) h (record-length (keyRecord k) (key-shaped k l)),
+        by-parts held h,
+        key-own k l,
+        f,
+        specular-own k l,
+      )
+
 -- What was read, applied to held bytes and to the values that they stand for.
 module _ (held b : List ℕ) (room : ℕ) (w : Bytes b) (h : length held ≡ 113) where
   abbrev Stands : Reading → Type 0
@@ -157,19 +185,8 @@ module _ (held b : List ℕ) (room : ℕ) (w : Bytes b) (h : length held ≡ 113
   refusal-stands c n = rw (n, ne-eqb (numberOf c) 0 (not-zero c), ne-eqb (numberOf c) 0 (not-zero c))
 
   key-stands : (k : Key) → Taken b (keyRecord k) → Stands (took (keyRecord k))
-  unfolding applyRead applyAs holding appliedNumber heldWith bodyBytes bodyNumber
-  key-stands k t =
-      let l = t .shaped .stages in
-      rw (
-        t .number,
-        t .first,
-        ← t .bytes w,
-        key-laid held (recordBytes (keyRecord k)) h (record-length (keyRecord k) (t .shaped)),
-        by-parts held h,
-        key-own k l,
-        t .free,
-        specular-own k l,
-      )
+  unfolding applyRead applyAs holding appliedNumber heldWith
+  key-stands k t = rw (t .number, t .first, ← t .bytes w) (key-put held h k (t .shaped .stages) (t .free))
 
   variant-stands : (v : Variant) → Taken b (variantRecord v) → Stands (took (variantRecord v))
   unfolding applyRead applyAs holding appliedNumber heldWith bodyBytes bodyNumber
@@ -209,8 +226,14 @@ module _ (held b : List ℕ) (room : ℕ) (w : Bytes b) (h : length held ≡ 113
       ap heldOf (sym (either-way (eqb (appliedNumber (heldOf held) b room) 0) held))
       ∙ kept (holdsAll (heldOf held)) _ (answerOf (heldOf held .key) (heldOf held .variant) (heldOf held .entry) room) emitRecord (heldOf held)
 
+  state-stands : (s : StateWrite) → Taken b (stateRecord s) → Stands (took (stateRecord s))
+  unfolding applyRead applyAs holding appliedNumber heldWith
+  state-stands s t =
+      rw (t .number, t .first, state-in b s w t)
+      (key-put held h (writeApplied s (keyOrDefaults (heldOf held))) (altered-eight held s) (altered-free held s))
+
   -- The values of the held bytes behind a record are those that `records::apply` holds behind it.
   pub held-stands : heldOf (after (appliedNumber (heldOf held) b room) (heldWith (kindIn b) b held) held) ≡ applied (heldOf held) b room .held
   held-stands =
       read-cases Stands b
-      (record { refusal = refusal-stands; key = key-stands; variant = variant-stands; entry = entry-stands; emit = λ t. emit-stands })
+      (record { refusal = refusal-stands; key = key-stands; variant = variant-stands; entry = entry-stands; emit = λ t. emit-stands; state = state-stands })

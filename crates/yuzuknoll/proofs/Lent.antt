@@ -12,6 +12,7 @@ use lib.Seq.{sets, sets-eq}
 use Rattle.values.specs.Refusals.{numberOf}
 use Rattle.values.specs.declared.Refusal.{Refusal}
 use Rattle.values.specs.declared.Refusal.the-variants.{CutShort, UnknownKind, StageFlags, SpecularAdd, VariantFlags, EntryName, EmitTooEarly, NoRoom, InputTooLong, ReservedWord}
+use Rattle.values.specs.declared.Refusal.the-variants.{StageNumber, StateType, StateValue}
 use Rattle.yuzuknoll.specs.Lent.{after, firstOf}
 
 pub not-zero : (c : Refusal) → numberOf c ≡ 0 → ⊥
@@ -25,6 +26,9 @@ not-zero EmitTooEarly e = omega arith
 not-zero NoRoom e = omega arith
 not-zero InputTooLong e = omega arith
 not-zero ReservedWord e = omega arith
+not-zero StageNumber e = omega arith
+not-zero StateType e = omega arith
+not-zero StateValue e = omega arith
 
 pub left : {n : ℕ} (new old : List ℕ) → (n ≡ 0 → ⊥) → old ≡ after n new old
 left {n} new old h = rw (ne-eqb n 0 h)

@@ -3,4 +3,5 @@ mod Checking
 mod Emitting
 pub mod Records
 mod Applying
+mod Altering
 pub mod Held

@@ -7,21 +7,26 @@ use lib.Dec.{eqb}
 use lib.ListN.{take, drop, getD, replicate}
 use lib.Seq.{sets}
 use Rattle.shader.specs.Results.{emittedOf, textOf}
-use Rattle.wire.specs.Bodies.{kindByte, bodyLength, recordLength, keyFromBody, variantFromBody, entryFromBody}
+use Rattle.states.specs.Writes.{writeApplied}
+use Rattle.wire.specs.Bodies.{kindByte, bodyLength, recordLength, recordBytes, keyFromBody, variantFromBody, entryFromBody, stateFromBody}
+use Rattle.wire.specs.Values.{keyRecord}
 use Rattle.wire.specs.Reading.{bodyNumber}
 use Rattle.wire.specs.declared.Kind.{Kind}
 use Rattle.wire.specs.declared.Kind.the-variants as kind
+use Rattle.records.specs.Applying.{keyOrDefaults}
 use Rattle.records.specs.declared.Held.{Held}
 use Rattle.yuzuknoll.specs.Lent.{atFront, recordNumbers, resultNumbers}
 
 -- What is held.
 
--- The records of a key, a variant and an entry stand one behind another, in 59, 20 and 34 bytes: where each begins, and its body.
+-- The records of a key, a variant and an entry stand one behind another, in 59, 20 and 34 bytes: where each begins, and its body. A state write
+-- belongs to the key.
 abbrev pub placeOf : Kind → ℕ
 placeOf kind.Key = 0
 placeOf kind.Variant = 59
 placeOf kind.Entry = 79
 placeOf kind.Emit = 113
+placeOf kind.State = 0
 
 abbrev pub heldBody : Kind → List ℕ → List ℕ
 heldBody k held = take (bodyLength k) (drop (placeOf k + 1) held)
@@ -50,10 +55,18 @@ onEmit kind.Key emits holds = holds
 onEmit kind.Variant emits holds = holds
 onEmit kind.Entry emits holds = holds
 onEmit kind.Emit emits holds = emits
+onEmit kind.State emits holds = holds
 
--- the record stands over its part of the held bytes
+-- what then stands in the record's part of the held bytes: the record at the front of b, or, for a state write, the record of the altered key
+abbrev pub partWith : Kind → List ℕ → List ℕ → List ℕ
+partWith kind.Key b held = take (recordLength kind.Key) b
+partWith kind.Variant b held = take (recordLength kind.Variant) b
+partWith kind.Entry b held = take (recordLength kind.Entry) b
+partWith kind.Emit b held = []
+partWith kind.State b held = recordBytes (keyRecord (writeApplied (stateFromBody (drop 1 b)) (keyOrDefaults (heldOf held))))
+
 unfoldable pub heldWith : Kind → List ℕ → List ℕ → List ℕ
-heldWith k b held = onEmit k held (sets held (placeOf k) (take (recordLength k) b))
+heldWith k b held = onEmit k held (sets held (placeOf k) (partWith k b held))
 
 -- the text of the held values begins the buffer
 unfoldable pub textWith : Kind → Held → List ℕ → List ℕ

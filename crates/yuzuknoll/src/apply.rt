@@ -6,14 +6,20 @@ use crate::emit::RESULT_LENGTH;
 use crate::emit::emit_values;
 use crate::read::kind_in;
 use crate::refuse;
+use states::defaults;
+use states::set;
 use text::put;
+use values::Key;
 use values::Refusal;
 use wire::Kind;
 use wire::kind_byte;
+use wire::make::key_record;
 use wire::reader::entry_from_body;
 use wire::reader::key_from_body;
+use wire::reader::state_from_body;
 use wire::reader::variant_from_body;
 use wire::record_length;
+use wire::writer::write;
 ghost use Prim.Native.Nat.{_+_, _≤_};
 ghost use mathlib.Core.Path.{_≡_};
 ghost use mathlib.Core.Bool.{_&&_};
@@ -21,7 +27,7 @@ ghost use mathlib.Core.List.{_++_};
 ghost use lib.Dec.{eqb};
 ghost use lib.ListN.{drop, length, take};
 ghost use lib.Seq.{sets};
-ghost use Rattle.records.specs.Applying.{appliedNumber, emitNumber, holdsAll};
+ghost use Rattle.records.specs.Applying.{appliedNumber, emitNumber, holdsAll, keyOrDefaults};
 ghost use Rattle.wire.specs.Bodies.{bodyLength, kindByte, recordLength};
 ghost use Rattle.wire.specs.Reading.{bodyNumber};
 ghost use Rattle.yuzuknoll.specs.Lent.{ReportedDemand3, after, recordNumbers};
@@ -46,7 +52,7 @@ const HELD_LENGTH: usize = 113;
 // A record's kind and length, and a result.
 const APPLIED_LENGTH: usize = 10;
 
-// Where the record of a kind begins in the held bytes.
+// Where the record of a kind begins in the held bytes. A state write alters the key there.
 fn place_of(kind: Kind) -> usize
     ensures { λ r. ⌜ r ≡ placeOf kind ⌝ }
 {
@@ -55,6 +61,7 @@ fn place_of(kind: Kind) -> usize
         Kind::Variant => VARIANT_PLACE,
         Kind::Entry => ENTRY_PLACE,
         Kind::Emit => HELD_LENGTH,
+        Kind::State => KEY_PLACE,
     }
 }
 
@@ -136,6 +143,31 @@ fn keep_record(
     ACCEPTED
 }
 
+// The key that a state write alters.
+fn key_or_defaults(held: &[u8]) -> Key
+    requires { ⌜ length (now held) ≡ 113 ⌝ }
+    ensures { λ r. ⌜ r ≡ keyOrDefaults (heldOf (now (held .entry))) ⌝ }
+{
+    if part_held(Kind::Key, held[KEY_PLACE], &held[KEY_BODY..VARIANT_PLACE]) {
+        return key_from_body(&held[KEY_BODY..VARIANT_PLACE]);
+    }
+    defaults()
+}
+
+// A state write: the record of the altered key, over the key's part of the held bytes, which is their front.
+fn alter_key(bytes: &[u8], held: &mut [u8], applied: &mut [u64; APPLIED_LENGTH]) -> u64
+    requires { ⌜ (length (now held) ≡ 113) × (recordLength Kind.State ≤ length (now bytes)) ⌝ }
+    ensures number { λ r. ⌜ r ≡ 0 ⌝ }
+    ensures held { λ _. ⌜ now (held .exit) ≡ heldWith Kind.State (now (bytes .entry)) (now (held .entry)) ⌝ }
+    ensures applied { λ _. ⌜ now (applied .exit) ≡ recordNumbers Kind.State ++ noResult ⌝ }
+{
+    let before = key_or_defaults(held);
+    let after = set(before, state_from_body(&bytes[1..]));
+    write(key_record(after), held);
+    report_applied(Kind::State, [0u64; RESULT_LENGTH], applied);
+    ACCEPTED
+}
+
 // An emit record.
 fn emit_record(held: &[u8], text: &mut [u8], applied: &mut [u64; APPLIED_LENGTH]) -> u64
     requires { ⌜ length (now held) ≡ 113 ⌝ }
@@ -155,6 +187,7 @@ fn emit_record(held: &[u8], text: &mut [u8], applied: &mut [u64; APPLIED_LENGTH]
 
 // Applies the record at the front of bytes: it is held, or writes the text of what is held to the front of text. Reports its kind and length, and
 // the text's length, mask, rows, lookups and warnings, which are 0 for a record that is held.
+// A state write counts as held: the held key is then the altered one.
 #[no_mangle]
 pub extern "C" fn yuzuknoll_apply(
     held: &mut [u8; 113],
@@ -175,6 +208,7 @@ pub extern "C" fn yuzuknoll_apply(
     let kind = kind_in(bytes);
     match kind {
         Kind::Emit => emit_record(held, text, applied),
+        Kind::State => alter_key(bytes, held, applied),
         _ => keep_record(kind, bytes, held, applied),
     }
 }

@@ -1,16 +1,20 @@
-//! The causes 1 to 6 and 13 of a record, found on its bytes: no value is made of them.
+//! The causes 1 to 6 and 10 to 13 of a record, found on its bytes: of a key and a variant no value is made.
 use crate::ACCEPTED;
 use crate::refuse;
 use admission::entry_good;
 use admission::entry_reserved;
+use states::Checked;
+use states::check;
 use values::Refusal;
 use wire::KIND_EMIT;
 use wire::KIND_ENTRY;
 use wire::KIND_KEY;
+use wire::KIND_STATE;
 use wire::KIND_VARIANT;
 use wire::Kind;
 use wire::body_length;
 use wire::reader::entry_from_body;
+use wire::reader::state_from_body;
 ghost use Prim.Native.Nat.{_≤_};
 ghost use mathlib.Core.Path.{_≡_};
 ghost use mathlib.Core.Bool.{cond};
@@ -82,6 +86,17 @@ pub(crate) fn entry_number(body: &[u8]) -> u64
     ACCEPTED
 }
 
+fn state_number(body: &[u8]) -> u64
+    requires { ⌜ bodyLength Kind.State ≤ length (now body) ⌝ }
+    ensures { λ r. ⌜ r ≡ bodyNumber Kind.State (now (body .entry)) ⌝ }
+{
+    let write = state_from_body(body);
+    match check(write) {
+        Checked::Bad(refusal) => refuse(refusal),
+        Checked::Good => ACCEPTED,
+    }
+}
+
 // Of the body of a kind at the front of some bytes.
 pub(crate) fn kind_number(kind: Kind, body: &[u8]) -> u64
     ensures { λ r. ⌜ r ≡ cond (ltb (length (now (body .entry))) (bodyLength kind)) 1 (bodyNumber kind (now (body .entry))) ⌝ }
@@ -94,6 +109,7 @@ pub(crate) fn kind_number(kind: Kind, body: &[u8]) -> u64
         Kind::Variant => variant_number(body),
         Kind::Entry => entry_number(body),
         Kind::Emit => ACCEPTED,
+        Kind::State => state_number(body),
     }
 }
 
@@ -106,6 +122,7 @@ fn byte_number(byte: u8, body: &[u8]) -> u64
         KIND_VARIANT => kind_number(Kind::Variant, body),
         KIND_ENTRY => kind_number(Kind::Entry, body),
         KIND_EMIT => kind_number(Kind::Emit, body),
+        KIND_STATE => kind_number(Kind::State, body),
         _ => refuse(Refusal::UnknownKind),
     }
 }

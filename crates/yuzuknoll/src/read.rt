@@ -3,6 +3,7 @@ use crate::ACCEPTED;
 use crate::check::record_number;
 use wire::KIND_ENTRY;
 use wire::KIND_KEY;
+use wire::KIND_STATE;
 use wire::KIND_VARIANT;
 use wire::Kind;
 use wire::kind_byte;
@@ -21,6 +22,7 @@ pub(crate) fn kind_in(bytes: &[u8]) -> Kind
         KIND_KEY => Kind::Key,
         KIND_VARIANT => Kind::Variant,
         KIND_ENTRY => Kind::Entry,
+        KIND_STATE => Kind::State,
         _ => Kind::Emit,
     }
 }

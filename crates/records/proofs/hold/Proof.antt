@@ -1,4 +1,4 @@
--- The record's kind says which value it holds.
+-- The record's kind says which value it holds, or that its write is done.
 use borrow.Author.Needs.{needs}
 use Rattle.records.specs.Applying.{holding}
 use Rattle.records.proofs.hold.Statement.{statement}
@@ -20,6 +20,12 @@ returns-4 : tie.Need-returns-4
 unfolding holding
 returns-4 c = rw (c .enum-told4 .given .1)
 
+returns-5 : tie.Need-returns-5
+unfolding holding
+returns-5 c =
+    let b = c .before in
+    rw (b .before .enum-told5 .given .1, c .set .ensures, b .key-or-defaults .ensures)
+
 pub hold-spec : {M : Type 1} → statement M
 hold-spec =
     tie.close
@@ -28,7 +34,11 @@ hold-spec =
     (λ c. search needs)
     (λ c. search needs)
     (λ c. search needs)
+    (λ c. search needs)
+    (λ c κs. tt)
+    (λ c κs. tt)
     returns
     returns-2
     returns-3
-    returns-4)
+    returns-4
+    returns-5)

@@ -19,6 +19,9 @@ read-variant-requires c κs = let s = c .before .before in body-fits (s .before 
 read-entry-requires : tie.Need-read-entry-requires
 read-entry-requires c κs = let s = c .before .before in body-fits (s .before .body-length .ensures) (c .enum-told3 .given .1) (s .if1 .left)
 
+read-state-requires : tie.Need-read-state-requires
+read-state-requires c κs = let s = c .before .before in body-fits (s .before .body-length .ensures) (c .enum-told5 .given .1) (s .if1 .left)
+
 returns-2 : tie.Need-returns-2
 returns-2 c =
     let s = c .before .before .before in
@@ -41,9 +44,14 @@ returns-5 c =
     c .take-record .ensures ∙ ap took (c .before .emit-record .ensures)
     ∙ read-whole _ (s .before .body-length .ensures) (c .before .before .enum-told4 .given .1) (s .if1 .left)
 
+returns-6 : tie.Need-returns-6
+returns-6 c =
+    let s = c .before .before .before in
+    c .read-state .ensures ∙ read-whole _ (s .before .body-length .ensures) (c .before .enum-told5 .given .1) (s .if1 .left)
+
 pub read-as-spec : {M : Type 1} → statement M
 read-as-spec =
     tie.close
     (tie.spec (λ c κs. tt) (λ c κs. tt) returns (λ c. search needs) read-key-requires (λ c. search needs)
     read-variant-requires (λ c. search needs) read-entry-requires (λ c. search needs) (λ c κs. tt) (λ c κs. tt)
-    returns-2 returns-3 returns-4 returns-5)
+    (λ c. search needs) read-state-requires returns-2 returns-3 returns-4 returns-5 returns-6)

@@ -18,12 +18,15 @@ returns-4 : tie.Need-returns-4
 returns-4 c = c .read-as4 .ensures ∙ known kind.Emit _ (c .before .match .keys4)
 
 returns-5 : tie.Need-returns-5
-returns-5 c =
+returns-5 c = c .read-as5 .ensures ∙ known kind.State _ (c .before .match .keys5)
+
+returns-6 : tie.Need-returns-6
+returns-6 c =
     let other = c .before .match .rest in
-    c .refuse .ensures ∙ unknown _ (other .0 .0 .0 .1) (other .0 .0 .1) (other .0 .1) (other .1)
+    c .refuse .ensures ∙ unknown _ (other .0 .0 .0 .0 .1) (other .0 .0 .0 .1) (other .0 .0 .1) (other .0 .1) (other .1)
 
 pub read-kind-spec : {M : Type 1} → statement M
 read-kind-spec =
     tie.close
-    (tie.spec (λ c κs. tt) (λ c κs. tt) (λ c κs. tt) (λ c κs. tt) (λ c κs. tt) returns returns-2 returns-3 returns-4
-    returns-5)
+    (tie.spec (λ c κs. tt) (λ c κs. tt) (λ c κs. tt) (λ c κs. tt) (λ c κs. tt) (λ c κs. tt) returns returns-2 returns-3
+    returns-4 returns-5 returns-6)

@@ -33,6 +33,11 @@ returns-5 c =
     let s1 = c .before .before in
     not-short (s1 .before .before .before .args .body .now) (s1 .before .body-length .ensures) (c .enum-told4 .given .1) (s1 .if1 .left) refl
 
+returns-6 : tie.Need-returns-6
+returns-6 c =
+    let s1 = c .before .before .before in
+    not-short _ (s1 .before .body-length .ensures) (c .before .enum-told5 .given .1) (s1 .if1 .left) (c .state-number .ensures)
+
 pub kind-number-spec : {M : Type 1} → statement M
 kind-number-spec =
     tie.close
@@ -47,7 +52,10 @@ kind-number-spec =
     (λ c. search needs)
     (λ c κs. body-fits (c .before .before .before .body-length .ensures) (c .enum-told3 .given .1) (c .before .before .if1 .left))
     (λ c. search needs)
+    (λ c. search needs)
+    (λ c κs. body-fits (c .before .before .before .body-length .ensures) (c .enum-told5 .given .1) (c .before .before .if1 .left))
     returns-2
     returns-3
     returns-4
-    returns-5)
+    returns-5
+    returns-6)

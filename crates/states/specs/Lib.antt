@@ -1,0 +1,3 @@
+pub mod Types
+pub mod States
+pub mod Writes
