@@ -5,9 +5,12 @@ use mathlib.Core.List.{List, [], _∷_}
 use Prim.Native.Nat.{ℕ}
 use denote.Enum.Declared.{tagOf}
 use types.Run.{OneOf, miss}
+use Rattle.values.specs.declared.Key.{Key}
 use Rattle.values.specs.declared.Answer.{Answer}
 use Rattle.values.specs.declared.Refusal.{Refusal}
 use Rattle.values.specs.declared.Refusal.the-variants.{EmitTooEarly}
+use Rattle.states.specs.States.{defaults}
+use Rattle.states.specs.Writes.{writeApplied}
 use Rattle.shader.specs.Results.{answerOf}
 use Rattle.wire.specs.Reading.{readRecord}
 use Rattle.wire.specs.declared.Kind.{Kind}
@@ -17,7 +20,7 @@ use Rattle.wire.specs.declared.Record.{Record}
 use Rattle.wire.specs.declared.Reading.{Reading}
 use Rattle.wire.specs.declared.ReadAnswer.{ReadAnswer}
 use Rattle.wire.specs.declared.ReadAnswer.the-variants as read
-use Rattle.records.specs.Applying.{holdsAll, holding, emissionAnswer, applyAs, applyRead, heldAfter, applied}
+use Rattle.records.specs.Applying.{holdsAll, keyOrDefaults, holding, emissionAnswer, applyAs, applyRead, heldAfter, applied}
 use Rattle.records.specs.declared.Held.{Held}
 use Rattle.records.specs.declared.ApplyAnswer.{ApplyAnswer}
 use Rattle.records.specs.declared.ApplyAnswer.the-variants.{Replaced, Refused}
@@ -76,3 +79,25 @@ replaces kind.Variant n h room e = refl
 replaces kind.Entry n h room e = refl
 replaces kind.Emit n h room e = absurd (miss (0 ∷ 1 ∷ 2 ∷ 4 ∷ []) 3 tt e)
 replaces kind.State n h room e = refl
+
+-- the key that a write alters: the held one, or the defaults
+pub key-held : (h : Held) → h .«has_key» ≡ true → h .key ≡ keyOrDefaults h
+key-held h e = rw e
+
+pub key-none : (h : Held) {k : Key} → h .«has_key» ≡ false → k ≡ defaults → k ≡ keyOrDefaults h
+key-none h e f = rw e f
+
+-- what is held once a write is done to that key
+pub write-held : (r : Record) (h : Held) {before k : Key} → before ≡ keyOrDefaults h → k ≡ writeApplied (r .write) before →
+    _≡_ {A = Held}
+    (record {
+      «has_key» = true;
+      key = k;
+      «has_variant» = h .«has_variant»;
+      variant = h .variant;
+      «has_entry» = h .«has_entry»;
+      entry = h .entry;
+    })
+    (holding kind.State r h)
+unfolding holding
+write-held r h e f = rw (f, e)

@@ -20,6 +20,7 @@ use Rattle.wire.specs.declared.Reading.{Reading}
 use Rattle.wire.proofs.Bodies.{state-back}
 use Rattle.records.specs.Applying.{nothingHeld, keyOrDefaults, holding, applyAs, applyRead, heldAfter, applied}
 use Rattle.records.specs.declared.Held.{Held}
+use Rattle.records.proofs.Cases.{key-held}
 use Rattle.records.proofs.Room.{EightStages, nothing-held-eight, start-eight}
 
 -- what is held behind the records of a list of writes, each handed over by itself, the first of the list first; room is the length of the buffer
@@ -82,9 +83,6 @@ held-behind (w ∷ r) room h =
     ∙ ap (λ (x : Held). anyAccepted r || x .«has_key») (one-held w room h) ∙ one-has w h (accepted w) (anyAccepted r)
 
 -- So it holds of the held key itself: of one that was held before, and of one that begins from the defaults with the first accepted write.
-held-key : (h : Held) → h .«has_key» ≡ true → keyOrDefaults h ≡ h .key
-held-key h e = rw e
-
 or-held : (a : Bool) → (a || true) ≡ true
 or-held true = refl
 or-held false = refl
@@ -93,11 +91,11 @@ pub last-of-key : (ws : List StateWrite) (room : ℕ) (h : Held) → EightStages
     getState i t (heldBehind ws room h .key) ≡ Option·getD (lastWritten i t ws) (getState i t (h .key))
 last-of-key ws room h eight e i t =
     let after = held-behind ws room h ∙ ap (λ (b : Bool). anyAccepted ws || b) e ∙ or-held (anyAccepted ws) in
-    ap (getState i t) (sym (held-key (heldBehind ws room h) after)) ∙ last-held ws room h eight i t
-    ∙ ap (λ (k : Key). Option·getD (lastWritten i t ws) (getState i t k)) (held-key h e)
+    ap (getState i t) (key-held (heldBehind ws room h) after) ∙ last-held ws room h eight i t
+    ∙ ap (λ (k : Key). Option·getD (lastWritten i t ws) (getState i t k)) (sym (key-held h e))
 
 pub last-of-none : (ws : List StateWrite) (room : ℕ) → anyAccepted ws ≡ true → (i t : ℕ) →
     getState i t (heldBehind ws room nothingHeld .key) ≡ Option·getD (lastWritten i t ws) (getState i t defaults)
 last-of-none ws room e i t =
     let after = held-behind ws room nothingHeld ∙ ap (λ (b : Bool). b || false) e in
-    ap (getState i t) (sym (held-key (heldBehind ws room nothingHeld) after)) ∙ last-held ws room nothingHeld nothing-held-eight i t
+    ap (getState i t) (key-held (heldBehind ws room nothingHeld) after) ∙ last-held ws room nothingHeld nothing-held-eight i t

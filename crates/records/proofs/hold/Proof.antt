@@ -1,6 +1,7 @@
 -- The record's kind says which value it holds, or that its write is done.
 use borrow.Author.Needs.{needs}
 use Rattle.records.specs.Applying.{holding}
+use Rattle.records.proofs.Cases.{write-held}
 use Rattle.records.proofs.hold.Statement.{statement}
 use Rattle.records.proofs.hold.Tie as tie
 
@@ -21,10 +22,7 @@ unfolding holding
 returns-4 c = rw (c .enum-told4 .given .1)
 
 returns-5 : tie.Need-returns-5
-unfolding holding
-returns-5 c =
-    let b = c .before in
-    rw (b .before .enum-told5 .given .1, c .set .ensures, b .key-or-defaults .ensures)
+returns-5 c = let b = c .before in rw (b .before .enum-told5 .given .1) (write-held _ _ (b .key-or-defaults .ensures) (c .set .ensures))
 
 pub hold-spec : {M : Type 1} → statement M
 hold-spec =
