@@ -2,8 +2,8 @@
 
 use yuzuknoll::{
     Applied, Argument, Combiner, Comparison, Entry, EntryPass, FogMode, Key, Kind, Mask, Op,
-    Record, Refusal, Session, Stage, StageFlags, StageMask, TEXT_LENGTH, Variant, VariantFlags,
-    Warnings, emit, raw,
+    Record, Refusal, Session, Stage, StageFlags, StageMask, State, StateWrite, TEXT_LENGTH,
+    Variant, VariantFlags, Warnings, emit, raw,
 };
 
 /// MODULATE of texture and diffuse.
@@ -23,12 +23,18 @@ fn entry() -> Entry {
     Entry::new("m").unwrap()
 }
 
-fn records() -> [Record; 4] {
+/// One that the key has set.
+fn write() -> StateWrite {
+    StateWrite::new(0, State::ColourOp(Op::MODULATE)).unwrap()
+}
+
+fn records() -> [Record; 5] {
     [
         Record::Key(key()),
         Record::Variant(variant()),
         Record::Entry(entry()),
         Record::Emit,
+        Record::State(write()),
     ]
 }
 
@@ -43,7 +49,7 @@ fn record(kind: Kind, body: &[u8]) -> Vec<u8> {
 }
 
 /// Bytes of a key that are refused, with 3 before 4.
-fn bad_keys() -> Vec<(Refusal, [u8; 58])> {
+fn bad_keys() -> Vec<(Refusal, [u8; raw::KEY_LENGTH])> {
     let good = *key().as_bytes();
     let mut bad = Vec::new();
     for stage in 0..8 {
@@ -57,7 +63,7 @@ fn bad_keys() -> Vec<(Refusal, [u8; 58])> {
     bad
 }
 
-fn bad_variants() -> Vec<(Refusal, [u8; 19])> {
+fn bad_variants() -> Vec<(Refusal, [u8; raw::VARIANT_LENGTH])> {
     let flags = [64, 128, 192, 255];
     let bad = flags.map(|flags| {
         (
@@ -68,7 +74,7 @@ fn bad_variants() -> Vec<(Refusal, [u8; 19])> {
     bad.to_vec()
 }
 
-fn bad_entries() -> Vec<(Refusal, [u8; 33])> {
+fn bad_entries() -> Vec<(Refusal, [u8; raw::ENTRY_LENGTH])> {
     let good = *entry().as_bytes();
     let mut bad = vec![changed(&good, 0, 0), changed(&good, 0, 2)];
     bad.extend((33..=255).map(|length| changed(&good, 0, length)));
@@ -83,11 +89,37 @@ fn bad_entries() -> Vec<(Refusal, [u8; 33])> {
     bad.chain(words).collect()
 }
 
-fn named(name: &str) -> [u8; 33] {
-    let mut body = [0; 33];
+fn named(name: &str) -> [u8; raw::ENTRY_LENGTH] {
+    let mut body = [0; raw::ENTRY_LENGTH];
     body[0] = name.len() as u8;
     body[1..=name.len()].copy_from_slice(name.as_bytes());
     body
+}
+
+/// Bytes of a state write that are refused, with 10 before 11 and 11 before 12.
+fn bad_writes() -> Vec<(Refusal, [u8; raw::STATE_LENGTH])> {
+    let mut bad = Vec::new();
+    for stage in 8..=255 {
+        bad.push((Refusal::StageNumber, [stage, 1, 4, 0, 0, 0]));
+        bad.push((Refusal::StageNumber, [stage, 7, 4, 0, 0, 1]));
+    }
+    for number in (0..=255).filter(|number| !matches!(number, 0..=6 | 28)) {
+        bad.push((Refusal::StateType, [7, number, 1, 0, 0, 0]));
+        bad.push((Refusal::StateType, [7, number, 0, 0, 0, 128]));
+    }
+    for number in [0, 1, 2, 3, 4, 5, 6, 28] {
+        for at in 3..raw::STATE_LENGTH {
+            let good = [0, number, 1, 0, 0, 0];
+            bad.extend((0..8).map(|bit| (Refusal::StateValue, changed(&good, at, 1 << bit))));
+        }
+    }
+    let values = |number, taken: [u8; 2]| {
+        let others = (0..=255).filter(move |value| !taken.contains(value));
+        others.map(move |value| (Refusal::StateValue, [3, number, value, 0, 0, 0]))
+    };
+    bad.extend(values(0, [0, 1]));
+    bad.extend(values(28, [1, 5]));
+    bad
 }
 
 /// The words that no entry may be.
@@ -111,7 +143,7 @@ fn bad_records() -> Vec<(Refusal, Vec<u8>)> {
             bad.push((Refusal::CutShort, bytes[..length].to_vec()));
         }
     }
-    for kind in (0..=255).filter(|kind| !(1..=4).contains(kind)) {
+    for kind in (0..=255).filter(|&kind| Kind::from_number(kind).is_none()) {
         bad.push((Refusal::UnknownKind, vec![kind]));
         bad.push((Refusal::UnknownKind, vec![kind; 60]));
     }
@@ -121,6 +153,8 @@ fn bad_records() -> Vec<(Refusal, Vec<u8>)> {
     bad.extend(variants.map(|(refusal, body)| (refusal, record(Kind::Variant, &body))));
     let entries = bad_entries().into_iter();
     bad.extend(entries.map(|(refusal, body)| (refusal, record(Kind::Entry, &body))));
+    let writes = bad_writes().into_iter();
+    bad.extend(writes.map(|(refusal, body)| (refusal, record(Kind::State, &body))));
     bad
 }
 
@@ -350,7 +384,7 @@ fn flags_are_known_bits() {
 }
 
 /// Values with every byte different from its neighbours, so that a swapped field shows.
-fn unlike() -> [Record; 4] {
+fn unlike() -> [Record; 5] {
     let combiner = |n| Combiner::new(Op(n), Argument(n + 1), Argument(n + 2));
     let mut key = Key {
         specular: true,
@@ -379,7 +413,14 @@ fn unlike() -> [Record; 4] {
         flags: VariantFlags::FLAT_SHADE | VariantFlags::FOG_SOURCE_W,
     };
     let entry = Entry::new("abcdefghijklmnopqrstuvwxyz_01234").unwrap();
-    [key.into(), variant.into(), entry.into(), Record::Emit]
+    let write = StateWrite::new(7, State::AlphaArg2(Argument(0xa6))).unwrap();
+    [
+        key.into(),
+        variant.into(),
+        entry.into(),
+        Record::Emit,
+        write.into(),
+    ]
 }
 
 #[test]
@@ -436,7 +477,7 @@ fn refusals_of_read_and_write_leave_all() {
 #[test]
 fn holds_what_is_applied() {
     let mut session = Session::default();
-    assert_eq!(session.as_bytes(), &[0; 113]);
+    assert_eq!(session.as_bytes(), &[0; raw::HELD_LENGTH]);
     assert_eq!(
         (session.key(), session.variant(), session.entry()),
         (None, None, None)
@@ -454,7 +495,7 @@ fn holds_what_is_applied() {
         Record::Key(key),
         Record::Variant(variant),
         Record::Entry(entry),
-        _,
+        ..,
     ] = unlike()
     else {
         panic!("in this order");
@@ -463,13 +504,13 @@ fn holds_what_is_applied() {
     assert_eq!(session.variant(), Some(variant));
     assert_eq!(session.entry(), Some(entry));
     let all = unlike().map(|record| record.to_vec()).concat();
-    assert_eq!(session.as_bytes()[..], all[..113]);
+    assert_eq!(session.as_bytes()[..], all[..raw::HELD_LENGTH]);
     assert_eq!(Session::from_bytes(*session.as_bytes()), session);
 }
 
 #[test]
 fn reports_of_apply() {
-    let mut held = [0; 113];
+    let mut held = [0; raw::HELD_LENGTH];
     let mut text = [0; TEXT_LENGTH];
     for record in records() {
         let mut applied = APPLIED;
