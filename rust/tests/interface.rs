@@ -2,9 +2,18 @@
 
 use yuzuknoll::{
     Applied, Argument, Combiner, Comparison, Entry, EntryPass, FogMode, Key, Kind, Mask, Op,
-    Record, Refusal, Session, Stage, StageFlags, StageMask, State, StateWrite, TEXT_LENGTH,
+    Record, Refusal, STAGES, Session, Stage, StageFlags, StageMask, State, StateWrite, TEXT_LENGTH,
     Variant, VariantFlags, Warnings, emit, raw,
 };
+
+/// Where the parts begin of what a session holds.
+const KEY_AT: usize = 0;
+const VARIANT_AT: usize = KEY_AT + Kind::Key.record_length();
+const ENTRY_AT: usize = VARIANT_AT + Kind::Variant.record_length();
+
+/// Where the flags of a stage and the specular byte stand in a key.
+const FLAGS_AT: usize = size_of::<Stage>() - 1;
+const SPECULAR_AT: usize = size_of::<[Stage; STAGES]>();
 
 /// MODULATE of texture and diffuse.
 fn key() -> Key {
@@ -52,14 +61,14 @@ fn record(kind: Kind, body: &[u8]) -> Vec<u8> {
 fn bad_keys() -> Vec<(Refusal, [u8; raw::KEY_LENGTH])> {
     let good = *key().as_bytes();
     let mut bad = Vec::new();
-    for stage in 0..8 {
+    for stage in 0..STAGES {
         for bit in 2..8 {
-            let flags = changed(&good, 7 * stage + 6, 1 << bit);
+            let flags = changed(&good, size_of::<Stage>() * stage + FLAGS_AT, 1 << bit);
             bad.push((Refusal::StageFlags, flags));
-            bad.push((Refusal::StageFlags, changed(&flags, 56, 2)));
+            bad.push((Refusal::StageFlags, changed(&flags, SPECULAR_AT, 2)));
         }
     }
-    bad.extend((2..=255).map(|byte| (Refusal::SpecularAdd, changed(&good, 56, byte))));
+    bad.extend((2..=255).map(|byte| (Refusal::SpecularAdd, changed(&good, SPECULAR_AT, byte))));
     bad
 }
 
@@ -594,17 +603,18 @@ fn emits_only_with_all_three() {
 #[test]
 fn parts_that_are_not_good_are_not_held() {
     for (at, byte) in [
-        (0, 0xff),
-        (0, 2),
-        (7, 4),
-        (57, 2),
-        (59, 1),
-        (59, 0),
-        (78, 64),
-        (79, 2),
-        (80, 0),
-        (81, b'.'),
-        (112, 1),
+        (KEY_AT, 0xff),
+        (KEY_AT, 2),
+        (KEY_AT, 5),
+        (KEY_AT + 1 + FLAGS_AT, 4),
+        (KEY_AT + 1 + SPECULAR_AT, 2),
+        (VARIANT_AT, 1),
+        (VARIANT_AT, 0),
+        (ENTRY_AT - 1, 64),
+        (ENTRY_AT, 2),
+        (ENTRY_AT + 1, 0),
+        (ENTRY_AT + 2, b'.'),
+        (raw::HELD_LENGTH - 1, 1),
     ] {
         let bytes = changed(full().as_bytes(), at, byte);
         let mut session = Session::from_bytes(bytes);
@@ -613,7 +623,8 @@ fn parts_that_are_not_good_are_not_held() {
             session.variant().is_none(),
             session.entry().is_none(),
         ];
-        assert_eq!(missing, [at < 59, (59..79).contains(&at), at >= 79]);
+        let of_variant = (VARIANT_AT..ENTRY_AT).contains(&at);
+        assert_eq!(missing, [at < VARIANT_AT, of_variant, at >= ENTRY_AT]);
         let refused = session.apply(&mut &[4][..], &mut [0; TEXT_LENGTH]).err();
         assert_eq!(refused, Some(Refusal::EmitTooEarly), "byte {at}");
         assert_eq!(*session.as_bytes(), bytes);
