@@ -4,7 +4,7 @@
  * therefore ends, or begins, at a page that may not be touched, and what is left of its own pages holds a pattern. Every input is gone through both
  * ways. After each call every byte of these pages is compared with what must stand there, the structs for reports among them.
  *
- * An input: the length of the text's buffer (two bytes, low byte first), of the written record's, what is held (113 bytes), and records. The key, the
+ * An input: the length of the text's buffer (two bytes, low byte first), of the written record's, what is held, and records. The key, the
  * variant and the entry for yuzuknoll_emit are the bytes of what is held behind the kinds. The calls on an entry's bytes are given those of this entry,
  * and the first bytes of what is held as a state that no pass makes.
  */
@@ -21,6 +21,11 @@
 #define PATTERN 0xa5
 #define HEAD 3
 #define FRONT (HEAD + YUZUKNOLL_HELD_LENGTH)
+
+/* Where the parts of what is held begin. */
+#define KEY_AT 0
+#define VARIANT_AT (KEY_AT + YUZUKNOLL_KEY_RECORD_LENGTH)
+#define ENTRY_AT (VARIANT_AT + YUZUKNOLL_VARIANT_RECORD_LENGTH)
 
 enum { KEY, VARIANT, ENTRY, BYTES, HELD, TEXT, REPORT, STATE, BUFFERS };
 
@@ -136,18 +141,81 @@ static void check_emitted(const yuzuknoll_key *key, const yuzuknoll_variant *var
     check_warnings(key, variant, result);
 }
 
+static uint32_t value_of(const yuzuknoll_state_write *write) {
+    return write->value[0] | (uint32_t)write->value[1] << 8 | (uint32_t)write->value[2] << 16 | (uint32_t)write->value[3] << 24;
+}
+
+/* What a write is refused with, by the rules of the header. */
+static uint64_t refusal_of_write(const yuzuknoll_state_write *write) {
+    uint32_t value = value_of(write);
+    int good = value <= 255;
+    if (write->stage > 7)
+        return YUZUKNOLL_REFUSED_STAGE_NUMBER;
+    if (write->type > YUZUKNOLL_STATE_ALPHA_ARG2 && write->type != YUZUKNOLL_STATE_RESULT_ARG)
+        return YUZUKNOLL_REFUSED_STATE_TYPE;
+    if (write->type == YUZUKNOLL_STATE_RESULT_ARG)
+        good = value == YUZUKNOLL_ARG_CURRENT || value == YUZUKNOLL_ARG_TEMP;
+    if (write->type == YUZUKNOLL_STATE_TEXTURE_BOUND)
+        good = value <= 1;
+    return good ? YUZUKNOLL_ACCEPTED : YUZUKNOLL_REFUSED_STATE_VALUE;
+}
+
+/* The key that a write begins from where none is held. */
+static yuzuknoll_key defaults(void) {
+    yuzuknoll_key key = {.specular = 0};
+    for (int i = 0; i < 8; i++) {
+        yuzuknoll_stage *stage = &key.stages[i];
+        stage->colour_op = i == 0 ? YUZUKNOLL_OP_MODULATE : YUZUKNOLL_OP_DISABLE;
+        stage->alpha_op = i == 0 ? YUZUKNOLL_OP_SELECTARG1 : YUZUKNOLL_OP_DISABLE;
+        stage->colour_arg1 = stage->alpha_arg1 = YUZUKNOLL_ARG_TEXTURE;
+        stage->colour_arg2 = stage->alpha_arg2 = YUZUKNOLL_ARG_CURRENT;
+    }
+    return key;
+}
+
+/* A good write, done to a key. */
+static void set_state(yuzuknoll_key *key, const yuzuknoll_state_write *write) {
+    yuzuknoll_stage *stage = &key->stages[write->stage];
+    uint8_t value = write->value[0];
+    switch (write->type) {
+    case YUZUKNOLL_STATE_COLOUR_OP: stage->colour_op = value; break;
+    case YUZUKNOLL_STATE_COLOUR_ARG1: stage->colour_arg1 = value; break;
+    case YUZUKNOLL_STATE_COLOUR_ARG2: stage->colour_arg2 = value; break;
+    case YUZUKNOLL_STATE_ALPHA_OP: stage->alpha_op = value; break;
+    case YUZUKNOLL_STATE_ALPHA_ARG1: stage->alpha_arg1 = value; break;
+    case YUZUKNOLL_STATE_ALPHA_ARG2: stage->alpha_arg2 = value; break;
+    case YUZUKNOLL_STATE_RESULT_ARG:
+        stage->flags = (stage->flags & YUZUKNOLL_STAGE_TEXTURED) | (value == YUZUKNOLL_ARG_TEMP ? YUZUKNOLL_STAGE_TO_TEMP : 0);
+        break;
+    default: stage->flags = (stage->flags & YUZUKNOLL_STAGE_TO_TEMP) | value;
+    }
+}
+
+/* That a refusal is one of the record's kind; of a write it is the first that its bytes have. */
+static void check_refusal(const struct lent *bytes, uint64_t refusal) {
+    uint8_t kind = bytes->length == 0 ? 0 : *(uint8_t *)bytes->bytes;
+    int of_write = refusal >= YUZUKNOLL_REFUSED_STAGE_NUMBER && refusal <= YUZUKNOLL_REFUSED_STATE_VALUE;
+    int of_entry = refusal == YUZUKNOLL_REFUSED_ENTRY_NAME || refusal == YUZUKNOLL_REFUSED_RESERVED_WORD;
+    must(refusal <= YUZUKNOLL_REFUSED_VARIANT_FLAGS || of_entry || of_write, "read: no refusal of it");
+    must(!of_entry || kind == YUZUKNOLL_KIND_ENTRY, "read: no entry, and refused as one");
+    must(!of_write || kind == YUZUKNOLL_KIND_STATE, "read: no state write, and refused as one");
+    if (kind == YUZUKNOLL_KIND_STATE && bytes->length >= YUZUKNOLL_STATE_RECORD_LENGTH) {
+        yuzuknoll_state_write write;
+        memcpy(&write, (uint8_t *)bytes->bytes + 1, sizeof write);
+        must(refusal == refusal_of_write(&write), "read: another answer to a state write");
+    }
+}
+
 /* yuzuknoll_read, to which the other calls are held. */
 static uint64_t check_read(struct lent *bytes, yuzuknoll_record *record) {
     static const size_t lengths[] = {YUZUKNOLL_KEY_RECORD_LENGTH, YUZUKNOLL_VARIANT_RECORD_LENGTH, YUZUKNOLL_ENTRY_RECORD_LENGTH,
-                                     YUZUKNOLL_EMIT_RECORD_LENGTH};
+                                     YUZUKNOLL_EMIT_RECORD_LENGTH, YUZUKNOLL_STATE_RECORD_LENGTH};
     struct lent *report = lend_room(REPORT, sizeof *record);
     uint64_t refusal = yuzuknoll_read(bytes->bytes, bytes->length, report->bytes);
-    must(refusal <= YUZUKNOLL_REFUSED_ENTRY_NAME || refusal == YUZUKNOLL_REFUSED_RESERVED_WORD, "read: no refusal of it");
-    if (refusal == YUZUKNOLL_REFUSED_ENTRY_NAME || refusal == YUZUKNOLL_REFUSED_RESERVED_WORD)
-        must(*(uint8_t *)bytes->bytes == YUZUKNOLL_KIND_ENTRY, "read: no entry, and refused as one");
+    check_refusal(bytes, refusal);
     if (refusal == YUZUKNOLL_ACCEPTED) {
         memcpy(record, report->bytes, sizeof *record);
-        must(record->kind >= YUZUKNOLL_KIND_KEY && record->kind <= YUZUKNOLL_KIND_EMIT, "read: no kind");
+        must(record->kind >= YUZUKNOLL_KIND_KEY && record->kind <= YUZUKNOLL_KIND_STATE, "read: no kind");
         must(record->kind == *(uint8_t *)bytes->bytes, "read: another kind");
         must(record->taken == lengths[record->kind - 1] && record->taken <= bytes->length, "read: another length");
         expect(report, 0, record, sizeof *record);
@@ -218,8 +286,8 @@ static uint64_t check_emit(struct lent *key, struct lent *variant, struct lent *
 
 /* The same into a buffer of a length, of the text's length, and one byte shorter. */
 static void check_emits(const uint8_t *held, size_t room) {
-    const uint8_t *variant_record = held + YUZUKNOLL_KEY_RECORD_LENGTH, *entry_record = variant_record + YUZUKNOLL_VARIANT_RECORD_LENGTH;
-    struct lent *key = lend(KEY, held + 1, sizeof(yuzuknoll_key), sizeof(yuzuknoll_key));
+    const uint8_t *variant_record = held + VARIANT_AT, *entry_record = held + ENTRY_AT;
+    struct lent *key = lend(KEY, held + KEY_AT + 1, sizeof(yuzuknoll_key), sizeof(yuzuknoll_key));
     struct lent *variant = lend(VARIANT, variant_record + 1, sizeof(yuzuknoll_variant), sizeof(yuzuknoll_variant));
     struct lent *entry = lend(ENTRY, entry_record + 1, sizeof(yuzuknoll_entry), sizeof(yuzuknoll_entry));
     yuzuknoll_result first, again;
@@ -258,7 +326,7 @@ static void check_step(struct lent *state, uint8_t byte) {
 
 /* The calls on an entry's bytes: a state of any numbers, then an entry, and a byte more. */
 static void check_pass(const uint8_t *held) {
-    const uint8_t *entry = held + YUZUKNOLL_KEY_RECORD_LENGTH + YUZUKNOLL_VARIANT_RECORD_LENGTH + 1;
+    const uint8_t *entry = held + ENTRY_AT + 1;
     struct lent *state = lend(STATE, held, sizeof(pass), sizeof(pass));
     static const pass started;
     check_possible(state);
@@ -286,11 +354,11 @@ static int holds(const uint8_t *part, size_t length, unsigned kind) {
 /* What an emit record must answer and report; expects its text in the buffer. */
 static uint64_t emit_expected(const uint8_t *held, struct lent *out, yuzuknoll_result *result) {
     static uint8_t text[MOST];
-    const uint8_t *variant = held + YUZUKNOLL_KEY_RECORD_LENGTH, *entry = variant + YUZUKNOLL_VARIANT_RECORD_LENGTH;
-    if (!holds(held, YUZUKNOLL_KEY_RECORD_LENGTH, YUZUKNOLL_KIND_KEY) || !holds(variant, YUZUKNOLL_VARIANT_RECORD_LENGTH, YUZUKNOLL_KIND_VARIANT) ||
+    const uint8_t *variant = held + VARIANT_AT, *entry = held + ENTRY_AT;
+    if (!holds(held + KEY_AT, YUZUKNOLL_KEY_RECORD_LENGTH, YUZUKNOLL_KIND_KEY) || !holds(variant, YUZUKNOLL_VARIANT_RECORD_LENGTH, YUZUKNOLL_KIND_VARIANT) ||
         !holds(entry, YUZUKNOLL_ENTRY_RECORD_LENGTH, YUZUKNOLL_KIND_ENTRY))
         return YUZUKNOLL_REFUSED_EMIT_TOO_EARLY;
-    const yuzuknoll_key *key = (const yuzuknoll_key *)(held + 1);
+    const yuzuknoll_key *key = (const yuzuknoll_key *)(held + KEY_AT + 1);
     const yuzuknoll_variant *body = (const yuzuknoll_variant *)(variant + 1);
     uint64_t refusal = yuzuknoll_emit(key, body, (const yuzuknoll_entry *)(entry + 1), text, out->length, result);
     if (refusal == YUZUKNOLL_ACCEPTED) {
@@ -302,10 +370,25 @@ static uint64_t emit_expected(const uint8_t *held, struct lent *out, yuzuknoll_r
     return refusal;
 }
 
+/* Expects in the held bytes the key that a good write makes of them. */
+static void expect_write(struct lent *held, const struct lent *bytes) {
+    uint8_t *part = (uint8_t *)held->bytes + KEY_AT;
+    uint8_t record[YUZUKNOLL_KEY_RECORD_LENGTH] = {YUZUKNOLL_KIND_KEY};
+    yuzuknoll_state_write write;
+    yuzuknoll_key key = defaults();
+    memcpy(&write, (uint8_t *)bytes->bytes + 1, sizeof write);
+    if (holds(part, YUZUKNOLL_KEY_RECORD_LENGTH, YUZUKNOLL_KIND_KEY))
+        memcpy(&key, part + 1, sizeof key);
+    set_state(&key, &write);
+    memcpy(record + 1, &key, sizeof key);
+    expect(held, KEY_AT, record, sizeof record);
+    note(14, write.stage << 5 | write.type);
+}
+
 /* yuzuknoll_apply after yuzuknoll_read said what it did of the record. What is held is left as the call leaves it. */
 static uint64_t check_apply(struct lent *held, struct lent *bytes, uint64_t read, const yuzuknoll_record *record, size_t room,
                             yuzuknoll_applied *applied) {
-    static const size_t places[] = {0, YUZUKNOLL_KEY_RECORD_LENGTH, YUZUKNOLL_KEY_RECORD_LENGTH + YUZUKNOLL_VARIANT_RECORD_LENGTH};
+    static const size_t places[] = {KEY_AT, VARIANT_AT, ENTRY_AT};
     struct lent *out = lend_room(TEXT, room), *report = lend_room(REPORT, sizeof *applied);
     uint64_t expected = read;
     memset(applied, 0, sizeof *applied);
@@ -314,6 +397,8 @@ static uint64_t check_apply(struct lent *held, struct lent *bytes, uint64_t read
         applied->taken = record->taken;
         if (record->kind == YUZUKNOLL_KIND_EMIT)
             expected = emit_expected(held->bytes, out, &applied->result);
+        else if (record->kind == YUZUKNOLL_KIND_STATE)
+            expect_write(held, bytes);
         else
             expect(held, places[record->kind - 1], bytes->bytes, record->taken);
     }

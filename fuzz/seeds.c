@@ -1,4 +1,4 @@
-/* seeds FOLDER COUNT: inputs of good records for interface.c, one to a file; an entry is seldom a reserved word. */
+/* seeds FOLDER COUNT: inputs of good records for interface.c, one to a file; an entry is seldom a reserved word, and a state write seldom refused. */
 #include <stdint.h>
 #include <stdio.h>
 #include <stdlib.h>
@@ -62,6 +62,19 @@ static uint8_t *put_entry(uint8_t *at) {
     return put_name(at, name);
 }
 
+static uint8_t *put_write(uint8_t *at) {
+    static const uint8_t types[] = {YUZUKNOLL_STATE_TEXTURE_BOUND, YUZUKNOLL_STATE_COLOUR_OP,  YUZUKNOLL_STATE_COLOUR_ARG1, YUZUKNOLL_STATE_COLOUR_ARG2,
+                                    YUZUKNOLL_STATE_ALPHA_OP,      YUZUKNOLL_STATE_ALPHA_ARG1, YUZUKNOLL_STATE_ALPHA_ARG2,  YUZUKNOLL_STATE_RESULT_ARG};
+    unsigned type = types[below(sizeof types)], value = below(27);
+    if (type == YUZUKNOLL_STATE_TEXTURE_BOUND)
+        value = below(2);
+    if (type == YUZUKNOLL_STATE_RESULT_ARG)
+        value = below(2) == 0 ? YUZUKNOLL_ARG_CURRENT : YUZUKNOLL_ARG_TEMP;
+    at = put(put(at, YUZUKNOLL_KIND_STATE), below(40) == 0 ? 8 : below(8));
+    at = put(put(at, below(40) == 0 ? 26 : type), value);
+    return put(put(put(at, below(40) == 0), 0), 0);
+}
+
 /* Buffers that are large enough, or of any length. */
 static uint8_t *put_lengths(uint8_t *at) {
     unsigned room = below(4) == 0 ? below(4000) : YUZUKNOLL_TEXT_LENGTH;
@@ -77,10 +90,13 @@ static uint8_t *put_held(uint8_t *at) {
 
 static uint8_t *put_records(uint8_t *at) {
     for (unsigned left = below(10); left != 0; left--) {
-        switch (below(5)) {
+        switch (below(8)) {
         case 0: at = put_key(at); break;
         case 1: at = put_variant(at); break;
         case 2: at = put_entry(at); break;
+        case 3:
+        case 4:
+        case 5: at = put_write(at); break;
         default: at = put(at, YUZUKNOLL_KIND_EMIT);
         }
     }

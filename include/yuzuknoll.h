@@ -33,9 +33,9 @@
 extern "C" {
 #endif
 
-#define YUZUKNOLL_VERSION "0.7.0"
+#define YUZUKNOLL_VERSION "0.8.0"
 #define YUZUKNOLL_VERSION_MAJOR 0
-#define YUZUKNOLL_VERSION_MINOR 7
+#define YUZUKNOLL_VERSION_MINOR 8
 #define YUZUKNOLL_VERSION_PATCH 0
 
 /* ---- Refusals ---- */
@@ -51,6 +51,9 @@ extern "C" {
 #define YUZUKNOLL_REFUSED_EMIT_TOO_EARLY 7 /* An emit record came before a key, a variant and an entry were held. */
 #define YUZUKNOLL_REFUSED_NO_ROOM 8        /* The text, or the record to write, is longer than the buffer. */
 #define YUZUKNOLL_REFUSED_INPUT_TOO_LONG 9 /* No call returns this. The program ffps takes no more than 32,768 bytes. */
+#define YUZUKNOLL_REFUSED_STAGE_NUMBER 10  /* The stage of a state write is above 7. */
+#define YUZUKNOLL_REFUSED_STATE_TYPE 11    /* The type of a state write is not one of YUZUKNOLL_STATE_... */
+#define YUZUKNOLL_REFUSED_STATE_VALUE 12   /* The type of a state write does not take its value. */
 #define YUZUKNOLL_REFUSED_RESERVED_WORD 13 /* The entry is a reserved word. They are given with yuzuknoll_entry. */
 
 /* ---- Keys ---- */
@@ -114,6 +117,42 @@ typedef struct {
     uint8_t specular;  /* 1 adds the specular colour behind the last stage, 0 does not. */
     uint8_t projected; /* Bit i divides the texture coordinate of stage i by its w, and makes it 0 where w is 0. */
 } yuzuknoll_key;
+
+/* ---- State writes ---- */
+
+/* The types of texture stage states, with Direct3D's numbers (D3DTSS_...) but for 0, and the values that each takes. */
+#define YUZUKNOLL_STATE_TEXTURE_BOUND 0 /* ours: 1 if a texture is bound to the stage, else 0 */
+#define YUZUKNOLL_STATE_COLOUR_OP 1     /* 0 to 255, as in a yuzuknoll_stage; so are the five below */
+#define YUZUKNOLL_STATE_COLOUR_ARG1 2
+#define YUZUKNOLL_STATE_COLOUR_ARG2 3
+#define YUZUKNOLL_STATE_ALPHA_OP 4
+#define YUZUKNOLL_STATE_ALPHA_ARG1 5
+#define YUZUKNOLL_STATE_ALPHA_ARG2 6
+#define YUZUKNOLL_STATE_RESULT_ARG 28   /* where the result goes: YUZUKNOLL_ARG_CURRENT or YUZUKNOLL_ARG_TEMP */
+
+/* A write of one state of one stage. yuzuknoll_apply makes a key from the records of such writes. The value has four bytes,
+ * low byte first.
+ *
+ * A key that begins with a write has Direct3D's defaults elsewhere:
+ *   the colour op is YUZUKNOLL_OP_MODULATE at stage 0, YUZUKNOLL_OP_DISABLE at the others
+ *   the alpha op is YUZUKNOLL_OP_SELECTARG1 at stage 0, YUZUKNOLL_OP_DISABLE at the others
+ *   argument 1 is YUZUKNOLL_ARG_TEXTURE and argument 2 YUZUKNOLL_ARG_CURRENT, in colour and alpha of every stage
+ *   the result goes to YUZUKNOLL_ARG_CURRENT, and no texture is bound
+ * Its specular and projected are 0, and no write changes them. */
+typedef struct {
+    uint8_t stage;
+    uint8_t type; /* One of YUZUKNOLL_STATE_... */
+    uint8_t value[4];
+} yuzuknoll_state_write;
+
+/* Initializes a state write. Evaluates the value, of which the low 32 bits count, four times:
+ *
+ *     yuzuknoll_state_write lit = YUZUKNOLL_STATE_WRITE(0, YUZUKNOLL_STATE_COLOUR_OP, YUZUKNOLL_OP_MODULATE2X);
+ */
+#define YUZUKNOLL_STATE_WRITE(stage, type, value) \
+    {(stage), (type), \
+     {YUZUKNOLL_BYTE(value, 0), YUZUKNOLL_BYTE(value, 8), YUZUKNOLL_BYTE(value, 16), YUZUKNOLL_BYTE(value, 24)}}
+#define YUZUKNOLL_BYTE(value, shift) (uint8_t)((uint32_t)(value) >> (shift) & 255)
 
 /* ---- Variants ---- */
 
@@ -250,18 +289,21 @@ uint64_t yuzuknoll_emit(const yuzuknoll_key *key, const yuzuknoll_variant *varia
 
 /* ---- Records ---- */
 
-/* Keys, variants and entries can be stored and sent as records. A record is a byte for its kind, followed by the bytes
- * of a yuzuknoll_key, yuzuknoll_variant or yuzuknoll_entry. An emit record, which asks for a text, is its kind alone. */
+/* Keys, variants, entries and state writes can be stored and sent as records. A record is a byte for its kind, followed by
+ * the bytes of a yuzuknoll_key, yuzuknoll_variant, yuzuknoll_entry or yuzuknoll_state_write. An emit record, which asks for
+ * a text, is its kind alone. */
 #define YUZUKNOLL_KIND_KEY 1
 #define YUZUKNOLL_KIND_VARIANT 2
 #define YUZUKNOLL_KIND_ENTRY 3
 #define YUZUKNOLL_KIND_EMIT 4
+#define YUZUKNOLL_KIND_STATE 5
 
 /* The number of bytes of a record, its kind included. */
 #define YUZUKNOLL_KEY_RECORD_LENGTH 59
 #define YUZUKNOLL_VARIANT_RECORD_LENGTH 20
 #define YUZUKNOLL_ENTRY_RECORD_LENGTH 34
 #define YUZUKNOLL_EMIT_RECORD_LENGTH 1
+#define YUZUKNOLL_STATE_RECORD_LENGTH 7
 
 /* What yuzuknoll_read and yuzuknoll_write report. */
 typedef struct {
@@ -271,8 +313,8 @@ typedef struct {
 
 /* Checks the record at the front of bytes. The bytes after it do not matter.
  *
- * Refuses with 1 if there is no byte, with 2, with 1 if the record is cut short, or with 3, 4, 5, 6 or 13, in this order.
- * On refusal nothing is modified. */
+ * Refuses with 1 if there is no byte, with 2, with 1 if the record is cut short, or with the first cause of its kind: 3, 4
+ * of a key, 5 of a variant, 6, 13 of an entry, 10, 11, 12 of a state write. On refusal nothing is modified. */
 uint64_t yuzuknoll_read(const uint8_t *bytes, size_t length, yuzuknoll_record *record);
 
 /* Checks the record at the front of bytes and copies it to the front of out. The bytes after it do not matter.
@@ -284,7 +326,8 @@ uint64_t yuzuknoll_write(const uint8_t *bytes, size_t length, uint8_t *out, size
 /* ---- Sessions ---- */
 
 /* The key, the variant and the entry that the records so far have set: their records, one after another. A struct of
- * zeros holds nothing. A part that yuzuknoll_read refuses, or that has another kind, counts as not held. */
+ * zeros holds nothing. A part that yuzuknoll_read refuses, or that has another kind, counts as not held. A key that state
+ * writes have set is held as the key record that gives the same key. */
 #define YUZUKNOLL_HELD_LENGTH 113
 typedef struct {
     uint8_t bytes[YUZUKNOLL_HELD_LENGTH];
@@ -297,9 +340,11 @@ typedef struct {
     yuzuknoll_result result; /* What yuzuknoll_emit reports, if this is an emit record. All 0 if it is not. */
 } yuzuknoll_applied;
 
-/* Takes the record at the front of bytes. A key, a variant or an entry replaces the one that is held. An emit record
- * writes the Metal function of what is held to the front of text, as yuzuknoll_emit does. The bytes after the record do
- * not matter.
+/* Takes the record at the front of bytes. A key, a variant or an entry replaces the one that is held. A state write sets
+ * one state of the held key and leaves the rest of it; if no key is held, it sets the state in the defaults, and that key
+ * is held from then on. So after any list of writes the key has, for each stage and type, the last value written, or else
+ * what it had before. An emit record writes the Metal function of what is held to the front of text, as yuzuknoll_emit
+ * does. The bytes after the record do not matter.
  *
  * Refuses as yuzuknoll_read does, and an emit record also with 7 or 8, in this order. Does not modify the other parts of
  * held, nor the bytes after the text; unless it is an emit record, text is not modified. On refusal nothing is
@@ -318,6 +363,7 @@ uint64_t yuzuknoll_apply(yuzuknoll_held *held, const uint8_t *bytes, size_t leng
 #define YUZUKNOLL_SIZE(type, bytes) extern char yuzuknoll_size_of_##type[sizeof(type) == (bytes) ? 1 : -1]
 #endif
 YUZUKNOLL_SIZE(yuzuknoll_key, 58);
+YUZUKNOLL_SIZE(yuzuknoll_state_write, 6);
 YUZUKNOLL_SIZE(yuzuknoll_variant, 19);
 YUZUKNOLL_SIZE(yuzuknoll_entry, 33);
 YUZUKNOLL_SIZE(yuzuknoll_result, 64);

@@ -17,7 +17,8 @@
 //! # Ok::<(), yuzuknoll::Refusal>(())
 //! ```
 //!
-//! Keys, variants and entries can be stored as [`Record`]s. A [`Session`] takes a sequence of records and writes a text for each emit record.
+//! Keys, variants and entries can be stored as [`Record`]s. A [`Session`] takes a sequence of records and writes a text for each emit record. A program
+//! that has a list of texture stage state writes in place of a key hands them to a session as [`StateWrite`]s.
 //!
 //! The functions are those of the archive that `rt staticlib yuzuknoll` makes (include/yuzuknoll.h). On a [`Refusal`] nothing is modified.
 
@@ -38,6 +39,7 @@ pub mod raw;
 mod records;
 mod refusal;
 mod session;
+mod states;
 mod values;
 mod warnings;
 
@@ -47,6 +49,7 @@ pub use pass::EntryPass;
 pub use records::{Kind, Record};
 pub use refusal::Refusal;
 pub use session::{Applied, Session};
+pub use states::{Register, State, StateWrite};
 pub use values::{Combiner, Entry, Key, STAGES, Stage, Variant};
 pub use warnings::{StageMask, Warning, Warnings};
 

@@ -1,10 +1,11 @@
 //! The functions as include/yuzuknoll.h has them, on any bytes. All but those on an entry's bytes return 0 or the number of a refusal, and report into a
 //! struct, which they modify only if they return 0.
 
-/// The bytes of a key, a variant and an entry, and of what a session holds.
+/// The bytes of a key, a variant, an entry and a state write, and of what a session holds.
 pub const KEY_LENGTH: usize = 58;
 pub const VARIANT_LENGTH: usize = 19;
 pub const ENTRY_LENGTH: usize = 33;
+pub const STATE_LENGTH: usize = 6;
 pub const HELD_LENGTH: usize = 113;
 
 /// `yuzuknoll_result`: what is known of a text.

@@ -1,6 +1,6 @@
-//! Keys, variants and entries as bytes that can be stored and sent.
+//! Keys, variants, entries and state writes as bytes that can be stored and sent.
 
-use crate::{Entry, Key, Refusal, Variant, raw};
+use crate::{Entry, Key, Refusal, StateWrite, Variant, raw};
 
 /// The kind of a record.
 #[derive(Clone, Copy, Debug, PartialEq, Eq, Hash)]
@@ -9,6 +9,7 @@ pub enum Kind {
     Variant,
     Entry,
     Emit,
+    State,
 }
 
 impl Kind {
@@ -20,6 +21,7 @@ impl Kind {
             2 => Some(Self::Variant),
             3 => Some(Self::Entry),
             4 => Some(Self::Emit),
+            5 => Some(Self::State),
             _ => None,
         }
     }
@@ -32,6 +34,7 @@ impl Kind {
             Self::Variant => 2,
             Self::Entry => 3,
             Self::Emit => 4,
+            Self::State => 5,
         }
     }
 
@@ -43,17 +46,19 @@ impl Kind {
             Self::Variant => 1 + raw::VARIANT_LENGTH,
             Self::Entry => 1 + raw::ENTRY_LENGTH,
             Self::Emit => 1,
+            Self::State => 1 + raw::STATE_LENGTH,
         }
     }
 }
 
-/// A key, a variant or an entry to be held, or the wish for the text of what is held.
+/// A key, a variant or an entry to be held, the wish for the text of what is held, or a write to the key that is held.
 #[derive(Clone, Copy, Debug, PartialEq, Eq, Hash)]
 pub enum Record {
     Key(Key),
     Variant(Variant),
     Entry(Entry),
     Emit,
+    State(StateWrite),
 }
 
 impl Record {
@@ -64,13 +69,14 @@ impl Record {
             Self::Variant(_) => Kind::Variant,
             Self::Entry(_) => Kind::Entry,
             Self::Emit => Kind::Emit,
+            Self::State(_) => Kind::State,
         }
     }
 
     /// Reads the record at the front of `bytes`, and moves `bytes` on to what follows it.
     ///
     /// # Errors
-    /// [`Refusal::CutShort`] to [`Refusal::EntryName`], or [`Refusal::ReservedWord`]; `bytes` then still begins with the refused record.
+    /// [`Refusal::CutShort`], [`Refusal::UnknownKind`], or the first cause of the record's kind; `bytes` then still begins with the refused record.
     pub fn read(bytes: &mut &[u8]) -> Result<Self, Refusal> {
         Refusal::check(raw::read(bytes, &mut raw::Record::default()))?;
         let (record, rest) = Self::of_accepted(bytes)?;
@@ -97,6 +103,11 @@ impl Record {
                 (Entry::of_accepted(entry).into(), rest)
             }
             Kind::Emit => (Self::Emit, body),
+            Kind::State => {
+                let (write, rest) = body.split_first_chunk().ok_or(cut_short)?;
+                let write = StateWrite::of_accepted(write).ok_or(Refusal::StateType)?;
+                (write.into(), rest)
+            }
         })
     }
 
@@ -113,11 +124,16 @@ impl Record {
     /// The record's bytes.
     #[must_use]
     pub fn to_vec(&self) -> Vec<u8> {
+        let write;
         let body: &[u8] = match self {
             Self::Key(key) => key.as_bytes(),
             Self::Variant(variant) => variant.as_bytes(),
             Self::Entry(entry) => entry.as_bytes(),
             Self::Emit => &[],
+            Self::State(state) => {
+                write = state.to_bytes();
+                &write
+            }
         };
         [&[self.kind().number()], body].concat()
     }
@@ -138,5 +154,11 @@ impl From<Variant> for Record {
 impl From<Entry> for Record {
     fn from(entry: Entry) -> Self {
         Self::Entry(entry)
+    }
+}
+
+impl From<StateWrite> for Record {
+    fn from(write: StateWrite) -> Self {
+        Self::State(write)
     }
 }

@@ -26,6 +26,12 @@ pub enum Refusal {
     InputTooLong,
     /// The entry is a reserved word, one that the texts or Metal use.
     ReservedWord,
+    /// The stage of a state write is above 7.
+    StageNumber,
+    /// The type of a state write is the number of no [`State`](crate::State).
+    StateType,
+    /// The type of a state write does not take its value.
+    StateValue,
     /// A number that this version of the crate has no name for. The archive of the same version returns none.
     Other(u64),
 }
@@ -45,6 +51,9 @@ impl Refusal {
             7 => Self::EmitTooEarly,
             8 => Self::NoRoom,
             9 => Self::InputTooLong,
+            10 => Self::StageNumber,
+            11 => Self::StateType,
+            12 => Self::StateValue,
             13 => Self::ReservedWord,
             _ => Self::Other(number),
         })
@@ -62,6 +71,9 @@ impl Refusal {
             Self::EmitTooEarly => 7,
             Self::NoRoom => 8,
             Self::InputTooLong => 9,
+            Self::StageNumber => 10,
+            Self::StateType => 11,
+            Self::StateValue => 12,
             Self::ReservedWord => 13,
             Self::Other(number) => number,
         }
@@ -85,6 +97,9 @@ impl fmt::Display for Refusal {
             Self::EmitTooEarly => "emit came before a key, a variant and an entry",
             Self::NoRoom => "the buffer is too short",
             Self::InputTooLong => "the input is too long",
+            Self::StageNumber => "a state write has a stage above 7",
+            Self::StateType => "a state write has an unknown type",
+            Self::StateValue => "a state write has a value that its type does not take",
             Self::ReservedWord => "the entry is a reserved word",
             Self::Other(_) => "the cause has no name here",
         };

@@ -20,6 +20,21 @@ use crate::{Emission, Entry, Key, Kind, Record, Refusal, Variant, raw};
 /// }
 /// # Ok::<(), yuzuknoll::Refusal>(())
 /// ```
+///
+/// A key may come as a list of state writes. Each sets one state of the held key, and leaves the rest of it. If no key is held, the first one begins from
+/// [`Key::BEFORE_WRITES`]:
+///
+/// ```
+/// use yuzuknoll::{Applied, Op, Record, Session, State, StateWrite};
+///
+/// let mut session = Session::new();
+/// for state in [State::TextureBound(true), State::ColourOp(Op::ADD), State::ColourOp(Op::MODULATE2X)] {
+///     let record = Record::State(StateWrite::new(0, state)?).to_vec();
+///     assert_eq!(session.apply(&mut record.as_slice(), &mut [])?, Applied::Altered);
+/// }
+/// assert_eq!(session.key().map(|key| key.stages[0].colour.op), Some(Op::MODULATE2X));
+/// # Ok::<(), yuzuknoll::Refusal>(())
+/// ```
 #[derive(Clone, Copy, Debug, PartialEq, Eq, Hash)]
 pub struct Session {
     held: [u8; raw::HELD_LENGTH],
@@ -36,6 +51,8 @@ pub enum Applied<'a> {
     Replaced,
     /// The record asked for a text.
     Text(Emission<'a>),
+    /// The record, a state write, altered the key that was held, or began one.
+    Altered,
 }
 
 impl Session {
@@ -99,10 +116,10 @@ impl Session {
         let mut applied = raw::Applied::default();
         Refusal::check(raw::apply(&mut self.held, records, text, &mut applied))?;
         *records = records.get(applied.taken as usize..).unwrap_or_default();
-        Ok(if applied.kind == Kind::Emit.number().into() {
-            Applied::Text(Emission::of(&applied.result, text))
-        } else {
-            Applied::Replaced
+        Ok(match Kind::from_number(applied.kind as u8) {
+            Some(Kind::Emit) => Applied::Text(Emission::of(&applied.result, text)),
+            Some(Kind::State) => Applied::Altered,
+            _ => Applied::Replaced,
         })
     }
 }

@@ -51,6 +51,15 @@ impl Stage {
         alpha: Combiner::DISABLED,
         flags: StageFlags::NONE,
     };
+
+    /// A stage of which no state was written, with the ops that Direct3D gives it.
+    const fn unwritten(colour: Op, alpha: Op) -> Self {
+        Self {
+            colour: Combiner::new(colour, Argument::TEXTURE, Argument::CURRENT),
+            alpha: Combiner::new(alpha, Argument::TEXTURE, Argument::CURRENT),
+            flags: StageFlags::NONE,
+        }
+    }
 }
 
 impl Default for Stage {
@@ -71,6 +80,17 @@ pub struct Key {
 }
 
 impl Key {
+    /// The key that state writes begin from if none is held: Direct3D's defaults.
+    pub const BEFORE_WRITES: Self = {
+        let mut stages = [Stage::unwritten(Op::DISABLE, Op::DISABLE); STAGES];
+        stages[0] = Stage::unwritten(Op::MODULATE, Op::SELECTARG1);
+        Self {
+            stages,
+            specular: false,
+            projected: 0,
+        }
+    };
+
     /// A key of these stages, at most eight, with disabled ones behind them.
     ///
     /// ```compile_fail

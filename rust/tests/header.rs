@@ -3,8 +3,8 @@
 use std::{collections::BTreeMap, mem::offset_of};
 
 use yuzuknoll::{
-    Argument, Combiner, Comparison, Entry, FogMode, Key, Kind, Op, Refusal, STAGES, Stage,
-    StageFlags, TEXT_LENGTH, VERSION, Variant, VariantFlags, raw,
+    Argument, Combiner, Comparison, Entry, FogMode, Key, Kind, Op, Refusal, Register, STAGES,
+    Stage, StageFlags, State, StateWrite, TEXT_LENGTH, VERSION, Variant, VariantFlags, raw,
 };
 
 const HEADER: &str = include_str!("../../include/yuzuknoll.h");
@@ -105,6 +105,16 @@ fn named() -> BTreeMap<&'static str, u64> {
         ("VARIANT_LOD_BIAS", VariantFlags::LOD_BIAS),
         ("VARIANT_FOG_SOURCE_W", VariantFlags::FOG_SOURCE_W),
     ];
+    let states = [
+        ("STATE_TEXTURE_BOUND", State::TextureBound(true)),
+        ("STATE_COLOUR_OP", State::ColourOp(Op::ADD)),
+        ("STATE_COLOUR_ARG1", State::ColourArg1(Argument::TEMP)),
+        ("STATE_COLOUR_ARG2", State::ColourArg2(Argument::TEMP)),
+        ("STATE_ALPHA_OP", State::AlphaOp(Op::ADD)),
+        ("STATE_ALPHA_ARG1", State::AlphaArg1(Argument::TEMP)),
+        ("STATE_ALPHA_ARG2", State::AlphaArg2(Argument::TEMP)),
+        ("STATE_RESULT_ARG", State::ResultArg(Register::Temp)),
+    ];
     let refusals = [
         ("REFUSED_CUT_SHORT", Refusal::CutShort),
         ("REFUSED_UNKNOWN_KIND", Refusal::UnknownKind),
@@ -115,6 +125,9 @@ fn named() -> BTreeMap<&'static str, u64> {
         ("REFUSED_EMIT_TOO_EARLY", Refusal::EmitTooEarly),
         ("REFUSED_NO_ROOM", Refusal::NoRoom),
         ("REFUSED_INPUT_TOO_LONG", Refusal::InputTooLong),
+        ("REFUSED_STAGE_NUMBER", Refusal::StageNumber),
+        ("REFUSED_STATE_TYPE", Refusal::StateType),
+        ("REFUSED_STATE_VALUE", Refusal::StateValue),
         ("REFUSED_RESERVED_WORD", Refusal::ReservedWord),
     ];
     let kinds = [
@@ -122,6 +135,7 @@ fn named() -> BTreeMap<&'static str, u64> {
         ("KIND_VARIANT", "VARIANT_RECORD_LENGTH", Kind::Variant),
         ("KIND_ENTRY", "ENTRY_RECORD_LENGTH", Kind::Entry),
         ("KIND_EMIT", "EMIT_RECORD_LENGTH", Kind::Emit),
+        ("KIND_STATE", "STATE_RECORD_LENGTH", Kind::State),
     ];
     let plain = [
         ("VERSION_MAJOR", version[0]),
@@ -151,6 +165,7 @@ fn named() -> BTreeMap<&'static str, u64> {
     all.extend(fogs.map(|(name, fog)| (name, fog.0.into())));
     all.extend(stage_flags.map(|(name, flags)| (name, flags.bits().into())));
     all.extend(variant_flags.map(|(name, flags)| (name, flags.bits().into())));
+    all.extend(states.map(|(name, state)| (name, state.number().into())));
     all.extend(refusals.map(|(name, refusal)| (name, refusal.number())));
     all.extend(kinds.map(|(name, _, kind)| (name, kind.number().into())));
     all.extend(kinds.map(|(_, name, kind)| (name, kind.record_length() as u64)));
@@ -160,8 +175,8 @@ fn named() -> BTreeMap<&'static str, u64> {
 #[test]
 fn every_number_is_named_here_and_there() {
     let mut defined = defined();
-    assert_eq!(defined.remove("VERSION"), Some("\"0.7.0\""));
-    assert_eq!(VERSION, "0.7.0");
+    assert_eq!(defined.remove("VERSION"), Some("\"0.8.0\""));
+    assert_eq!(VERSION, "0.8.0");
     // the guard of the header
     assert_eq!(defined.remove("H"), None);
     let numbers: BTreeMap<&str, u64> = defined
@@ -177,14 +192,13 @@ fn numbers_lead_back_to_their_names() {
     for number in 1..=14 {
         let refusal = Refusal::from_number(number).unwrap();
         assert_eq!(refusal.number(), number);
-        let unnamed = matches!(number, 10..=12 | 14);
-        assert_eq!(refusal == Refusal::Other(number), unnamed);
+        assert_eq!(refusal == Refusal::Other(number), number == 14);
         let said = refusal.to_string();
         assert!(said.starts_with(&format!("refused with {number}: ")));
     }
     for number in 0..=u8::MAX {
         let kind = Kind::from_number(number);
-        assert_eq!(kind.is_some(), (1..=4).contains(&number));
+        assert_eq!(kind.is_some(), (1..=5).contains(&number));
         assert!(kind.is_none_or(|kind| kind.number() == number));
     }
 }
@@ -246,7 +260,7 @@ macro_rules! fields {
 #[test]
 fn every_struct_has_the_same_layout() {
     let structs = structs();
-    let layouts: [Layout; 8] = [
+    let layouts: [Layout; 9] = [
         (
             "yuzuknoll_stage",
             size_of::<Stage>(),
@@ -268,6 +282,15 @@ fn every_struct_has_the_same_layout() {
             "yuzuknoll_entry",
             size_of::<Entry>(),
             vec![("length".to_owned(), 0), ("name".to_owned(), 1)],
+        ),
+        (
+            "yuzuknoll_state_write",
+            raw::STATE_LENGTH,
+            ["stage", "type", "value"]
+                .map(str::to_owned)
+                .into_iter()
+                .zip(0..)
+                .collect(),
         ),
         (
             "yuzuknoll_result",
@@ -316,13 +339,14 @@ fn sizes_are_asserted() {
     assert_eq!(
         asserted,
         [
-            ("yuzuknoll_key", 58),
-            ("yuzuknoll_variant", 19),
-            ("yuzuknoll_entry", 33),
-            ("yuzuknoll_result", 64),
-            ("yuzuknoll_record", 16),
-            ("yuzuknoll_applied", 80),
-            ("yuzuknoll_held", 113),
+            ("yuzuknoll_key", raw::KEY_LENGTH),
+            ("yuzuknoll_state_write", raw::STATE_LENGTH),
+            ("yuzuknoll_variant", raw::VARIANT_LENGTH),
+            ("yuzuknoll_entry", raw::ENTRY_LENGTH),
+            ("yuzuknoll_result", size_of::<raw::Emitted>()),
+            ("yuzuknoll_record", size_of::<raw::Record>()),
+            ("yuzuknoll_applied", size_of::<raw::Applied>()),
+            ("yuzuknoll_held", raw::HELD_LENGTH),
         ]
     );
     for (name, size) in asserted {
@@ -339,7 +363,7 @@ fn sizes_are_asserted() {
     }
 }
 
-/// The bytes of a key, a variant and an entry are what was set, in the order of the fields.
+/// The bytes of a key, a variant, an entry and a state write are what was set, in the order of the fields.
 #[test]
 fn bytes_are_the_fields_in_order() {
     let combiner = |n| Combiner::new(Op(n), Argument(n + 1), Argument(n + 2));
@@ -369,4 +393,6 @@ fn bytes_are_the_fields_in_order() {
     let bytes = variant.as_bytes();
     assert_eq!(bytes[..5], [0, 2, 0, 1, 2]);
     assert_eq!(bytes[17..], [7, 18]);
+    let write = StateWrite::new(3, State::AlphaOp(Op::DOTPRODUCT3)).unwrap();
+    assert_eq!(write.to_bytes(), [3, 4, 24, 0, 0, 0]);
 }

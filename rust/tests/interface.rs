@@ -2,9 +2,18 @@
 
 use yuzuknoll::{
     Applied, Argument, Combiner, Comparison, Entry, EntryPass, FogMode, Key, Kind, Mask, Op,
-    Record, Refusal, Session, Stage, StageFlags, StageMask, TEXT_LENGTH, Variant, VariantFlags,
-    Warnings, emit, raw,
+    Record, Refusal, STAGES, Session, Stage, StageFlags, StageMask, State, StateWrite, TEXT_LENGTH,
+    Variant, VariantFlags, Warnings, emit, raw,
 };
+
+/// Where the parts begin of what a session holds.
+const KEY_AT: usize = 0;
+const VARIANT_AT: usize = KEY_AT + Kind::Key.record_length();
+const ENTRY_AT: usize = VARIANT_AT + Kind::Variant.record_length();
+
+/// Where the flags of a stage and the specular byte stand in a key.
+const FLAGS_AT: usize = size_of::<Stage>() - 1;
+const SPECULAR_AT: usize = size_of::<[Stage; STAGES]>();
 
 /// MODULATE of texture and diffuse.
 fn key() -> Key {
@@ -23,12 +32,18 @@ fn entry() -> Entry {
     Entry::new("m").unwrap()
 }
 
-fn records() -> [Record; 4] {
+/// One that the key has set.
+fn write() -> StateWrite {
+    StateWrite::new(0, State::ColourOp(Op::MODULATE)).unwrap()
+}
+
+fn records() -> [Record; 5] {
     [
         Record::Key(key()),
         Record::Variant(variant()),
         Record::Entry(entry()),
         Record::Emit,
+        Record::State(write()),
     ]
 }
 
@@ -43,21 +58,21 @@ fn record(kind: Kind, body: &[u8]) -> Vec<u8> {
 }
 
 /// Bytes of a key that are refused, with 3 before 4.
-fn bad_keys() -> Vec<(Refusal, [u8; 58])> {
+fn bad_keys() -> Vec<(Refusal, [u8; raw::KEY_LENGTH])> {
     let good = *key().as_bytes();
     let mut bad = Vec::new();
-    for stage in 0..8 {
+    for stage in 0..STAGES {
         for bit in 2..8 {
-            let flags = changed(&good, 7 * stage + 6, 1 << bit);
+            let flags = changed(&good, size_of::<Stage>() * stage + FLAGS_AT, 1 << bit);
             bad.push((Refusal::StageFlags, flags));
-            bad.push((Refusal::StageFlags, changed(&flags, 56, 2)));
+            bad.push((Refusal::StageFlags, changed(&flags, SPECULAR_AT, 2)));
         }
     }
-    bad.extend((2..=255).map(|byte| (Refusal::SpecularAdd, changed(&good, 56, byte))));
+    bad.extend((2..=255).map(|byte| (Refusal::SpecularAdd, changed(&good, SPECULAR_AT, byte))));
     bad
 }
 
-fn bad_variants() -> Vec<(Refusal, [u8; 19])> {
+fn bad_variants() -> Vec<(Refusal, [u8; raw::VARIANT_LENGTH])> {
     let flags = [64, 128, 192, 255];
     let bad = flags.map(|flags| {
         (
@@ -68,7 +83,7 @@ fn bad_variants() -> Vec<(Refusal, [u8; 19])> {
     bad.to_vec()
 }
 
-fn bad_entries() -> Vec<(Refusal, [u8; 33])> {
+fn bad_entries() -> Vec<(Refusal, [u8; raw::ENTRY_LENGTH])> {
     let good = *entry().as_bytes();
     let mut bad = vec![changed(&good, 0, 0), changed(&good, 0, 2)];
     bad.extend((33..=255).map(|length| changed(&good, 0, length)));
@@ -83,11 +98,37 @@ fn bad_entries() -> Vec<(Refusal, [u8; 33])> {
     bad.chain(words).collect()
 }
 
-fn named(name: &str) -> [u8; 33] {
-    let mut body = [0; 33];
+fn named(name: &str) -> [u8; raw::ENTRY_LENGTH] {
+    let mut body = [0; raw::ENTRY_LENGTH];
     body[0] = name.len() as u8;
     body[1..=name.len()].copy_from_slice(name.as_bytes());
     body
+}
+
+/// Bytes of a state write that are refused, with 10 before 11 and 11 before 12.
+fn bad_writes() -> Vec<(Refusal, [u8; raw::STATE_LENGTH])> {
+    let mut bad = Vec::new();
+    for stage in 8..=255 {
+        bad.push((Refusal::StageNumber, [stage, 1, 4, 0, 0, 0]));
+        bad.push((Refusal::StageNumber, [stage, 7, 4, 0, 0, 1]));
+    }
+    for number in (0..=255).filter(|number| !matches!(number, 0..=6 | 28)) {
+        bad.push((Refusal::StateType, [7, number, 1, 0, 0, 0]));
+        bad.push((Refusal::StateType, [7, number, 0, 0, 0, 128]));
+    }
+    for number in [0, 1, 2, 3, 4, 5, 6, 28] {
+        for at in 3..raw::STATE_LENGTH {
+            let good = [0, number, 1, 0, 0, 0];
+            bad.extend((0..8).map(|bit| (Refusal::StateValue, changed(&good, at, 1 << bit))));
+        }
+    }
+    let values = |number, taken: [u8; 2]| {
+        let others = (0..=255).filter(move |value| !taken.contains(value));
+        others.map(move |value| (Refusal::StateValue, [3, number, value, 0, 0, 0]))
+    };
+    bad.extend(values(0, [0, 1]));
+    bad.extend(values(28, [1, 5]));
+    bad
 }
 
 /// The words that no entry may be.
@@ -111,7 +152,7 @@ fn bad_records() -> Vec<(Refusal, Vec<u8>)> {
             bad.push((Refusal::CutShort, bytes[..length].to_vec()));
         }
     }
-    for kind in (0..=255).filter(|kind| !(1..=4).contains(kind)) {
+    for kind in (0..=255).filter(|&kind| Kind::from_number(kind).is_none()) {
         bad.push((Refusal::UnknownKind, vec![kind]));
         bad.push((Refusal::UnknownKind, vec![kind; 60]));
     }
@@ -121,6 +162,8 @@ fn bad_records() -> Vec<(Refusal, Vec<u8>)> {
     bad.extend(variants.map(|(refusal, body)| (refusal, record(Kind::Variant, &body))));
     let entries = bad_entries().into_iter();
     bad.extend(entries.map(|(refusal, body)| (refusal, record(Kind::Entry, &body))));
+    let writes = bad_writes().into_iter();
+    bad.extend(writes.map(|(refusal, body)| (refusal, record(Kind::State, &body))));
     bad
 }
 
@@ -350,7 +393,7 @@ fn flags_are_known_bits() {
 }
 
 /// Values with every byte different from its neighbours, so that a swapped field shows.
-fn unlike() -> [Record; 4] {
+fn unlike() -> [Record; 5] {
     let combiner = |n| Combiner::new(Op(n), Argument(n + 1), Argument(n + 2));
     let mut key = Key {
         specular: true,
@@ -379,7 +422,14 @@ fn unlike() -> [Record; 4] {
         flags: VariantFlags::FLAT_SHADE | VariantFlags::FOG_SOURCE_W,
     };
     let entry = Entry::new("abcdefghijklmnopqrstuvwxyz_01234").unwrap();
-    [key.into(), variant.into(), entry.into(), Record::Emit]
+    let write = StateWrite::new(7, State::AlphaArg2(Argument(0xa6))).unwrap();
+    [
+        key.into(),
+        variant.into(),
+        entry.into(),
+        Record::Emit,
+        write.into(),
+    ]
 }
 
 #[test]
@@ -436,7 +486,7 @@ fn refusals_of_read_and_write_leave_all() {
 #[test]
 fn holds_what_is_applied() {
     let mut session = Session::default();
-    assert_eq!(session.as_bytes(), &[0; 113]);
+    assert_eq!(session.as_bytes(), &[0; raw::HELD_LENGTH]);
     assert_eq!(
         (session.key(), session.variant(), session.entry()),
         (None, None, None)
@@ -454,7 +504,7 @@ fn holds_what_is_applied() {
         Record::Key(key),
         Record::Variant(variant),
         Record::Entry(entry),
-        _,
+        ..,
     ] = unlike()
     else {
         panic!("in this order");
@@ -463,13 +513,13 @@ fn holds_what_is_applied() {
     assert_eq!(session.variant(), Some(variant));
     assert_eq!(session.entry(), Some(entry));
     let all = unlike().map(|record| record.to_vec()).concat();
-    assert_eq!(session.as_bytes()[..], all[..113]);
+    assert_eq!(session.as_bytes()[..], all[..raw::HELD_LENGTH]);
     assert_eq!(Session::from_bytes(*session.as_bytes()), session);
 }
 
 #[test]
 fn reports_of_apply() {
-    let mut held = [0; 113];
+    let mut held = [0; raw::HELD_LENGTH];
     let mut text = [0; TEXT_LENGTH];
     for record in records() {
         let mut applied = APPLIED;
@@ -553,17 +603,18 @@ fn emits_only_with_all_three() {
 #[test]
 fn parts_that_are_not_good_are_not_held() {
     for (at, byte) in [
-        (0, 0xff),
-        (0, 2),
-        (7, 4),
-        (57, 2),
-        (59, 1),
-        (59, 0),
-        (78, 64),
-        (79, 2),
-        (80, 0),
-        (81, b'.'),
-        (112, 1),
+        (KEY_AT, 0xff),
+        (KEY_AT, 2),
+        (KEY_AT, 5),
+        (KEY_AT + 1 + FLAGS_AT, 4),
+        (KEY_AT + 1 + SPECULAR_AT, 2),
+        (VARIANT_AT, 1),
+        (VARIANT_AT, 0),
+        (ENTRY_AT - 1, 64),
+        (ENTRY_AT, 2),
+        (ENTRY_AT + 1, 0),
+        (ENTRY_AT + 2, b'.'),
+        (raw::HELD_LENGTH - 1, 1),
     ] {
         let bytes = changed(full().as_bytes(), at, byte);
         let mut session = Session::from_bytes(bytes);
@@ -572,7 +623,8 @@ fn parts_that_are_not_good_are_not_held() {
             session.variant().is_none(),
             session.entry().is_none(),
         ];
-        assert_eq!(missing, [at < 59, (59..79).contains(&at), at >= 79]);
+        let of_variant = (VARIANT_AT..ENTRY_AT).contains(&at);
+        assert_eq!(missing, [at < VARIANT_AT, of_variant, at >= ENTRY_AT]);
         let refused = session.apply(&mut &[4][..], &mut [0; TEXT_LENGTH]).err();
         assert_eq!(refused, Some(Refusal::EmitTooEarly), "byte {at}");
         assert_eq!(*session.as_bytes(), bytes);

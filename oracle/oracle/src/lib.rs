@@ -9,6 +9,7 @@ pub mod names;
 pub mod program;
 pub mod records;
 pub mod rules;
+pub mod states;
 pub mod warnings;
 pub mod words;
 pub mod worked;

@@ -5,17 +5,20 @@ use std::io::Write;
 use crate::{
     emission::{Outcome, emit},
     records::{Entry, Key, Kind, Refusal, Triple, Variant, record},
+    states::{self, StateWrite},
 };
 
 pub const INPUT_CAP: usize = 32_768;
 pub const TEXT_CAP: usize = 16_384;
 
 /// A record at the front of some bytes, free of causes.
+#[derive(Clone, Copy, Debug, PartialEq, Eq)]
 pub enum Record {
     Key(Key),
     Variant(Variant),
     Entry(Entry),
     Emit,
+    State(StateWrite),
 }
 
 impl Record {
@@ -26,6 +29,7 @@ impl Record {
             Self::Variant(_) => Kind::Variant,
             Self::Entry(_) => Kind::Entry,
             Self::Emit => Kind::Emit,
+            Self::State(_) => Kind::State,
         }
     }
 
@@ -35,6 +39,7 @@ impl Record {
             Self::Variant(variant) => variant.cause(),
             Self::Entry(entry) => entry.cause(),
             Self::Emit => None,
+            Self::State(write) => write.cause(),
         }
     }
 
@@ -46,12 +51,13 @@ impl Record {
             Self::Variant(variant) => variant.body(),
             Self::Entry(entry) => entry.body(),
             Self::Emit => Vec::new(),
+            Self::State(write) => write.body(),
         };
         record(self.kind(), &body)
     }
 
     /// # Errors
-    /// The first of the causes 1 to 6 and 13.
+    /// The first of the causes 1 to 6 and 10 to 13.
     pub fn read(bytes: &[u8]) -> Result<Self, Refusal> {
         let (&kind, rest) = bytes.split_first().ok_or(Refusal::Cut)?;
         let kind = Kind::of(kind).ok_or(Refusal::Kind)?;
@@ -61,6 +67,7 @@ impl Record {
             Kind::Variant => Self::Variant(Variant::from_body(body)),
             Kind::Entry => Self::Entry(Entry::from_body(body)),
             Kind::Emit => Self::Emit,
+            Kind::State => Self::State(StateWrite::from_body(body)),
         };
         record.cause().map_or(Ok(record), Err)
     }
@@ -83,31 +90,37 @@ impl Held {
         if let Record::Emit = record {
             return self.emit(text_cap).map(Some);
         }
-        self.replace(record);
+        self.hold(record);
         Ok(None)
     }
 
-    /// Holds a record's value; an emit record has none.
-    pub fn replace(&mut self, record: Record) {
+    /// Holds a record's value; an emit record has none. A state write alters the held key, or begins from the defaults.
+    pub fn hold(&mut self, record: Record) {
         match record {
             Record::Key(key) => self.key = Some(key),
             Record::Variant(variant) => self.variant = Some(variant),
             Record::Entry(entry) => self.entry = Some(entry),
             Record::Emit => {}
+            Record::State(write) => {
+                self.key = Some(write.done(self.key.unwrap_or_else(states::defaults)));
+            }
         }
+    }
+
+    /// What an emit record needs, if all is held.
+    #[must_use]
+    pub fn triple(&self) -> Option<Triple> {
+        Some(Triple {
+            key: self.key?,
+            variant: self.variant?,
+            entry: self.entry?,
+        })
     }
 
     /// # Errors
     /// 7 or 8.
     pub fn emit(&self, text_cap: usize) -> Result<Outcome, Refusal> {
-        let (Some(key), Some(variant), Some(entry)) = (self.key, self.variant, self.entry) else {
-            return Err(Refusal::NothingHeld);
-        };
-        let outcome = emit(&Triple {
-            key,
-            variant,
-            entry,
-        });
+        let outcome = emit(&self.triple().ok_or(Refusal::NothingHeld)?);
         if outcome.text.len() > text_cap {
             return Err(Refusal::LongText);
         }

@@ -1,6 +1,6 @@
-//! 01's records: kinds, bodies as plain values, and the causes that refuse them.
+//! 01's records: kinds, bodies as plain values, and the causes that refuse them. A state write is 02's (`states`).
 
-use crate::words;
+use crate::{states::WRITE, words};
 
 pub const STAGES: usize = 8;
 pub const KEY: usize = STAGES * STAGE + 2;
@@ -47,12 +47,15 @@ pub enum Refusal {
     NothingHeld,
     LongText,
     LongInput,
-    Word = 13,
+    StageNumber,
+    StateType,
+    StateValue,
+    Word,
 }
 
 impl Refusal {
     /// In the order in which they are looked for, but for 9; the last two, 8 and 9, are about lengths.
-    pub const ALL: [Self; 10] = [
+    pub const ALL: [Self; 13] = [
         Self::Cut,
         Self::Kind,
         Self::StageFlag,
@@ -60,10 +63,25 @@ impl Refusal {
         Self::VariantFlag,
         Self::Entry,
         Self::Word,
+        Self::StageNumber,
+        Self::StateType,
+        Self::StateValue,
         Self::NothingHeld,
         Self::LongText,
         Self::LongInput,
     ];
+
+    /// All but 8 and 9: those that short inputs meet in the program.
+    #[must_use]
+    pub fn of_records() -> &'static [Self] {
+        &Self::ALL[..Self::ALL.len() - 2]
+    }
+
+    /// All but 9, which only the program answers.
+    #[must_use]
+    pub fn of_calls() -> &'static [Self] {
+        &Self::ALL[..Self::ALL.len() - 1]
+    }
 
     #[must_use]
     pub const fn number(self) -> u8 {
@@ -78,6 +96,7 @@ pub enum Kind {
     Variant,
     Entry,
     Emit,
+    State,
 }
 
 impl Kind {
@@ -88,6 +107,7 @@ impl Kind {
             2 => Some(Self::Variant),
             3 => Some(Self::Entry),
             4 => Some(Self::Emit),
+            5 => Some(Self::State),
             _ => None,
         }
     }
@@ -100,6 +120,7 @@ impl Kind {
             Self::Variant => VARIANT,
             Self::Entry => ENTRY,
             Self::Emit => 0,
+            Self::State => WRITE,
         }
     }
 }

@@ -57,7 +57,7 @@ fn main() -> Result<(), Refusal> {
     while let Some(kind) = rest.first() {
         let before = rest.len();
         match session.apply(&mut rest, &mut buffer) {
-            Ok(Applied::Replaced) => {
+            Ok(Applied::Replaced | Applied::Altered) => {
                 println!("a record of kind {kind}, {} bytes", before - rest.len());
             }
             Ok(Applied::Text(emission)) => {

@@ -7,10 +7,10 @@ mod rng;
 mod streams;
 mod systematic;
 
-pub use random::{entry, everyday, key, name, triple, variant};
+pub use random::{entry, everyday, key, name, triple, variant, write};
 pub use rng::Rng;
 pub use streams::{
-    Stream, accepted, any, bad_entry, damaged, full, good_record, refused, reserved,
+    Stream, accepted, any, bad_entry, bad_write, damaged, full, good_record, refused, reserved,
 };
 pub use systematic::{SAMPLING, bump_chain, systematic};
 

@@ -1,9 +1,12 @@
 //! Random triples: [`triple`] for unusual ones, [`everyday`] for those of a usual scene.
 
 use super::{MODIFIERS, Rng, TEXT_OPS};
-use crate::records::{
-    Combiner, Entry, FLAT_SHADE, FOG_SOURCE_W, Key, STAGES, Stage, TEXTURED, TO_TEMP, Triple,
-    Variant,
+use crate::{
+    records::{
+        Combiner, Entry, FLAT_SHADE, FOG_SOURCE_W, Key, STAGES, Stage, TEXTURED, TO_TEMP, Triple,
+        Variant,
+    },
+    states::{ALPHA_OP, COLOR_OP, CURRENT, RESULT_ARG, StateWrite, TEMP, TEXTURE_BOUND, TYPES},
 };
 
 /// A triple in which textures, TEMP, bump stages, constants and unknown codes meet often.
@@ -94,6 +97,23 @@ fn argument(rng: &mut Rng) -> u8 {
         _ => rng.byte() & 0xf0,
     };
     selector | modifier
+}
+
+/// A state write free of causes.
+pub fn write(rng: &mut Rng) -> StateWrite {
+    let state = rng.pick(&TYPES);
+    let value = match state {
+        TEXTURE_BOUND => rng.pick(&[0, 1]),
+        RESULT_ARG => rng.pick(&[CURRENT, TEMP]),
+        _ if rng.one_in(8) => rng.byte().into(),
+        COLOR_OP | ALPHA_OP => op(rng).into(),
+        _ => argument(rng).into(),
+    };
+    StateWrite {
+        stage: rng.below(STAGES) as u8,
+        state,
+        value,
+    }
 }
 
 pub fn variant(rng: &mut Rng) -> Variant {

@@ -1,10 +1,11 @@
 //! Record streams: accepted ones, ones refused for a wanted reason, and damaged ones.
 
-use super::{Rng, entry, key, triple, variant};
+use super::{Rng, entry, key, triple, variant, write};
 use crate::{
     emission::emit,
-    program::{INPUT_CAP, TEXT_CAP},
+    program::{Held, INPUT_CAP, Record, TEXT_CAP},
     records::{Entry, KEY, Key, Kind, Refusal, STAGES, Triple, record},
+    states::{RESULT_ARG, StateWrite, TEXTURE_BOUND, TYPES},
     words,
 };
 
@@ -21,31 +22,22 @@ pub struct Stream {
 #[derive(Default)]
 struct Builder {
     input: Vec<u8>,
-    held: [Option<Vec<u8>>; 3],
+    held: Held,
 }
 
 impl Builder {
     fn push(&mut self, kind: Kind, body: &[u8]) {
-        self.input.extend(record(kind, body));
-        match kind {
-            Kind::Key => self.held[0] = Some(body.to_vec()),
-            Kind::Variant => self.held[1] = Some(body.to_vec()),
-            Kind::Entry => self.held[2] = Some(body.to_vec()),
-            Kind::Emit => {}
+        let record = record(kind, body);
+        if let Ok(good) = Record::read(&record) {
+            self.held.hold(good);
         }
+        self.input.extend(record);
     }
 
-    fn held(&self) -> Option<Triple> {
-        let [Some(key), Some(variant), Some(entry)] = &self.held else {
-            return None;
-        };
-        Some(Triple::from_bodies(&[&key[..], variant, entry].concat()))
-    }
-
-    /// A record of one of these kinds, no emit before the three others.
+    /// A record of one of these kinds, no emit before a key, a variant and an entry.
     fn push_any(&mut self, rng: &mut Rng, kinds: &[Kind]) {
         let kind = rng.pick(kinds);
-        if kind != Kind::Emit || self.held().is_some() {
+        if kind != Kind::Emit || self.held.triple().is_some() {
             self.push(kind, &good_body(rng, kind));
         }
     }
@@ -74,13 +66,24 @@ impl Builder {
     }
 }
 
-const SETTING: [Kind; 3] = [Kind::Key, Kind::Variant, Kind::Entry];
-const ANY: [Kind; 5] = [
+/// What an emit record needs; a state write stands for a key.
+const PARTS: [Kind; 3] = [Kind::Key, Kind::Variant, Kind::Entry];
+const SETTING: [Kind; 5] = [
+    Kind::Key,
+    Kind::Variant,
+    Kind::Entry,
+    Kind::State,
+    Kind::State,
+];
+const ANY: [Kind; 8] = [
     Kind::Key,
     Kind::Variant,
     Kind::Entry,
     Kind::Emit,
     Kind::Emit,
+    Kind::State,
+    Kind::State,
+    Kind::State,
 ];
 
 /// Mostly few, seldom enough for offsets of four and five digits.
@@ -98,6 +101,7 @@ fn good_body(rng: &mut Rng, kind: Kind) -> Vec<u8> {
         Kind::Variant => variant(rng).body(),
         Kind::Entry => entry(rng).body(),
         Kind::Emit => Vec::new(),
+        Kind::State => write(rng).body(),
     }
 }
 
@@ -157,10 +161,13 @@ fn bad_record(rng: &mut Rng, refusal: Refusal) -> Vec<u8> {
         }
         Refusal::Entry => record(Kind::Entry, &bad_entry(rng).body()),
         Refusal::Word => record(Kind::Entry, &reserved(rng).body()),
+        Refusal::StageNumber | Refusal::StateType | Refusal::StateValue => {
+            record(Kind::State, &bad_write(rng, refusal).body())
+        }
         _ => {
             // A bad kind counts before the length, so the body is of any length.
-            let above = 5 + rng.below(251) as u8;
-            let kind = rng.weighted(&[(1, 0), (3, above)]);
+            let above = unlike(rng, |b| Kind::of(b).is_some());
+            let kind = rng.weighted(&[(1, 0), (1, 6), (3, above)]);
             let body = (0..rng.below(70)).map(|_| rng.byte());
             std::iter::once(kind).chain(body).collect()
         }
@@ -216,6 +223,47 @@ pub fn bad_entry(rng: &mut Rng) -> Entry {
     entry
 }
 
+/// A write with the cause 10, 11 or 12. Those that count later are often there too.
+pub fn bad_write(rng: &mut Rng, refusal: Refusal) -> StateWrite {
+    let mut bad = write(rng);
+    if refusal == Refusal::StateValue || rng.one_in(2) {
+        bad.value = bad_value(rng, bad.state);
+    }
+    if refusal == Refusal::StateType || refusal == Refusal::StageNumber && rng.one_in(2) {
+        let any = unlike(rng, |b| TYPES.contains(&b));
+        bad.state = rng.pick(&[7, 8, 24, 26, 27, 29, 32, any, any, any]);
+    }
+    if refusal == Refusal::StageNumber {
+        let any = 8 + rng.below(248) as u8;
+        bad.stage = rng.pick(&[8, 255, any]);
+    }
+    bad
+}
+
+/// A value that a type does not take: above 255, often so that its lowest byte alone would be taken, or none of those named.
+fn bad_value(rng: &mut Rng, state: u8) -> u32 {
+    let named: &[u8] = match state {
+        TEXTURE_BOUND => &[0, 1],
+        RESULT_ARG => &[1, 5],
+        _ => &[1, 2, 4, 255],
+    };
+    let low = u32::from(rng.pick(named));
+    let high = rng.pick(&[1 << 8, 1 << 16, 1 << 24, 1 << 31]);
+    if matches!(state, TEXTURE_BOUND | RESULT_ARG) && rng.one_in(2) {
+        loop {
+            let value = rng.byte();
+            if !named.contains(&value) {
+                return value.into();
+            }
+        }
+    }
+    if rng.one_in(4) {
+        rng.next_u64() as u32 | high
+    } else {
+        low | high
+    }
+}
+
 /// A byte without the property, often one right beside those that have it.
 fn unlike(rng: &mut Rng, property: fn(u8) -> bool) -> u8 {
     let beside = b"/09:@[^`{\x00\x7f\x80\xc3\xe1\xff";
@@ -240,6 +288,9 @@ fn cut(rng: &mut Rng) -> Stream {
             Refusal::VariantFlag,
             Refusal::Entry,
             Refusal::Word,
+            Refusal::StageNumber,
+            Refusal::StateType,
+            Refusal::StateValue,
         ]);
         bad_record(rng, bad)
     } else {
@@ -255,11 +306,18 @@ fn cut(rng: &mut Rng) -> Stream {
     builder.stream(Some((Refusal::Cut, at)))
 }
 
-/// An emit record with one, two or all of the three others missing.
+/// An emit record with one, two or all of a key, a variant and an entry missing. Writes may stand for the key.
 fn nothing_held(rng: &mut Rng) -> Stream {
-    let mut kinds = SETTING.to_vec();
+    let mut kinds = PARTS.to_vec();
     rng.shuffle(&mut kinds);
     kinds.truncate(rng.below(3));
+    if let Some(key) = kinds.iter().position(|&kind| kind == Kind::Key) {
+        match rng.below(3) {
+            0 => kinds[key] = Kind::State,
+            1 => kinds.push(Kind::State),
+            _ => {}
+        }
+    }
     let mut builder = Builder::default();
     if !kinds.is_empty() {
         builder.push_many(rng, &kinds);
@@ -278,7 +336,7 @@ fn long_text(rng: &mut Rng) -> Stream {
     let mut texts = Vec::new();
     for _ in 0..1 + rng.below(4) {
         builder.push_many(rng, &SETTING);
-        let held = builder.held().expect("all three");
+        let held = builder.held.triple().expect("all three");
         texts.push((builder.input.len(), emit(&held).text.len()));
         builder.push(Kind::Emit, &[]);
     }
@@ -341,7 +399,7 @@ pub fn any(rng: &mut Rng) -> Vec<u8> {
         _ if rng.one_in(100) => full(rng).input,
         _ if rng.one_in(100) => long_input(rng).input,
         _ => {
-            let refusal = rng.pick(&Refusal::ALL[..8]);
+            let refusal = rng.pick(Refusal::of_records());
             refused(rng, refusal).input
         }
     }

@@ -5,11 +5,13 @@ use std::{collections::BTreeSet, fmt::Write};
 use super::Case;
 use crate::{
     generate::{MODIFIERS, TEXT_OPS},
+    program::{Held, Record},
     records::{
         CUBE, Combiner, DEPTH, DEPTH_FETCH, FETCH4, FETCH4_ALPHA, Kind, LOD_BIAS, RAW_DEPTH_RED,
         Refusal, STAGES, Stage, Triple, VOLUME, Variant,
     },
     rules,
+    states::{RESULT_ARG, StateWrite, TEXTURE_BOUND},
 };
 
 /// An active stage, where it stands.
@@ -28,6 +30,7 @@ pub fn coverage(cases: &[Case]) -> String {
     table.line("cases", cases.len());
     table.line("emits", triples.len());
     refusals(&mut table, cases);
+    writes(&mut table, cases);
     operations(&mut table, &places);
     lookups(&mut table, &places);
     settings(&mut table, &triples);
@@ -48,27 +51,28 @@ impl Table {
     }
 }
 
+/// The records of a case that are accepted, each with what is held before it.
+fn accepted(case: &Case) -> Vec<(Held, Record)> {
+    let mut held = Held::default();
+    let mut records = Vec::new();
+    let end = refusal(case).map_or(case.input.len(), |(_, at)| at);
+    let mut at = 0;
+    while at < end {
+        let record = Record::read(&case.input[at..]).expect("an accepted record");
+        at += 1 + record.kind().size();
+        records.push((held, record));
+        held.hold(record);
+    }
+    records
+}
+
 /// The emissions that a case prints.
 pub(super) fn emissions(case: &Case) -> Vec<Triple> {
-    let mut bodies: [&[u8]; 3] = [&[]; 3];
-    let mut triples = Vec::new();
-    let mut rest = &case.input[..];
-    let printed = match refusal(case) {
-        Some((_, at)) => at,
-        None => case.input.len(),
-    };
-    while case.input.len() - rest.len() < printed {
-        let kind = Kind::of(rest[0]).expect("an accepted record");
-        let (body, behind) = rest[1..].split_at(kind.size());
-        match kind {
-            Kind::Key => bodies[0] = body,
-            Kind::Variant => bodies[1] = body,
-            Kind::Entry => bodies[2] = body,
-            Kind::Emit => triples.push(Triple::from_bodies(&bodies.concat())),
-        }
-        rest = behind;
-    }
-    triples
+    let emits = accepted(case).into_iter();
+    let emits = emits.filter(|(_, record)| record.kind() == Kind::Emit);
+    emits
+        .map(|(held, _)| held.triple().expect("all three"))
+        .collect()
 }
 
 /// The number and the offset in a case's last line.
@@ -89,7 +93,7 @@ fn places(triple: &Triple) -> impl Iterator<Item = Place<'_>> {
 }
 
 fn refusals(table: &mut Table, cases: &[Case]) {
-    for wanted in &Refusal::ALL[..8] {
+    for wanted in Refusal::of_records() {
         let found = cases.iter().filter_map(refusal);
         let offsets = found.filter(|(number, _)| *number == wanted.number());
         let offsets: Vec<usize> = offsets.map(|(_, at)| at).collect();
@@ -99,6 +103,34 @@ fn refusals(table: &mut Table, cases: &[Case]) {
             format_args!("{} at {} offsets", offsets.len(), different.len()),
         );
     }
+}
+
+fn writes(table: &mut Table, cases: &[Case]) {
+    let all: Vec<(Held, StateWrite)> = cases
+        .iter()
+        .flat_map(accepted)
+        .filter_map(|(held, record)| match record {
+            Record::State(write) => Some((held, write)),
+            _ => None,
+        })
+        .collect();
+    let first = || all.iter().filter(|(held, _)| held.key.is_none());
+    let state = |(_, write): &(Held, StateWrite)| (write.stage, write.state);
+    table.line("accepted state writes", all.len());
+    table.seen("state writes: stage, type", 64, all.iter().map(state));
+    table.seen("first writes: stage, type", 64, first().map(state));
+    table.seen(
+        "state writes: flags held before, type 28 or 0, value",
+        4 * 4,
+        all.iter().filter_map(|(held, write)| {
+            let flags = held.key?.stages[usize::from(write.stage)].flags;
+            matches!(write.state, RESULT_ARG | TEXTURE_BOUND).then_some((
+                flags,
+                write.state,
+                write.value,
+            ))
+        }),
+    );
 }
 
 /// The combiners that have an expression: in colour, and in alpha.

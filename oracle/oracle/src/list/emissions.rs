@@ -4,9 +4,10 @@ use crate::{
     emission::emit,
     generate::{self, FOG_MODES, MODIFIERS, Rng, SAMPLING, TEXT_OPS, bump_chain},
     records::{
-        Combiner, Key, Kind, POINT_SPRITE, SRGB_WRITE, STAGES, Stage, TEXTURED, TO_TEMP, Triple,
-        Variant, record,
+        Combiner, Entry, Key, Kind, POINT_SPRITE, SRGB_WRITE, STAGES, Stage, TEXTURED, TO_TEMP,
+        Triple, Variant, record,
     },
+    states::{CURRENT, RESULT_ARG, StateWrite, TEMP, TEXTURE_BOUND, TYPES},
     worked,
 };
 
@@ -57,9 +58,74 @@ pub fn inputs(rng: &mut Rng) -> Vec<Vec<u8>> {
     ];
     let alone = |triple| pack(&[triple]);
     let worked = worked::all().into_iter().flat_map(alone);
-    worked
-        .chain(sections.iter().flat_map(|s| pack(s)))
-        .collect()
+    let sections = sections.iter().flat_map(|s| pack(s));
+    let inputs = worked.chain(sections);
+    inputs.chain(writes(maker.rng)).collect()
+}
+
+/// Inputs that make their keys from state writes: each stage and type first, every third with a text; all of them in some order, twice; both bits of the
+/// flags over each that may be held; long lists; a key record between writes.
+fn writes(rng: &mut Rng) -> Vec<Vec<u8>> {
+    let mut states: Vec<(u8, u8)> = (0..STAGES as u8)
+        .flat_map(|stage| TYPES.map(|state| (stage, state)))
+        .collect();
+    let some = |rng: &mut Rng, (stage, state)| loop {
+        let write = generate::write(rng);
+        if write.state == state {
+            break StateWrite { stage, ..write };
+        }
+    };
+    let mut inputs = Vec::new();
+    for (n, &state) in states.iter().enumerate() {
+        inputs.push(of_writes(&[some(rng, state)], n % 3 == 0));
+    }
+    for _ in 0..2 {
+        rng.shuffle(&mut states);
+        let all: Vec<StateWrite> = states.iter().map(|&state| some(rng, state)).collect();
+        inputs.push(of_writes(&all, true));
+    }
+    inputs.push(of_writes(&flag_writes(), true));
+    for length in [20, 200, 1_000] {
+        let list: Vec<StateWrite> = (0..length).map(|_| generate::write(rng)).collect();
+        inputs.push(of_writes(&list, true));
+    }
+    let around: Vec<StateWrite> = (0..4).map(|_| generate::write(rng)).collect();
+    let mut input = of_writes(&around, true);
+    input.extend(record(Kind::Key, &generate::key(rng).body()));
+    input.extend(of_writes(&around, true));
+    inputs.push(input);
+    inputs
+}
+
+/// The records of writes, and an emit record behind a plain variant and an entry.
+fn of_writes(writes: &[StateWrite], emits: bool) -> Vec<u8> {
+    let records = writes.iter().map(|w| record(Kind::State, &w.body()));
+    let mut input: Vec<u8> = records.flatten().collect();
+    if emits {
+        input.extend(record(Kind::Variant, &Variant::default().body()));
+        input.extend(record(Kind::Entry, &Entry::new(b"written").body()));
+        input.extend(record(Kind::Emit, &[]));
+    }
+    input
+}
+
+/// Each value of the types 28 and 0 over each flags that a stage may hold.
+fn flag_writes() -> Vec<StateWrite> {
+    let result = |value| (RESULT_ARG, value);
+    let bound = |value| (TEXTURE_BOUND, value);
+    let mut writes = Vec::new();
+    for (held_result, held_bound) in [(CURRENT, 0), (CURRENT, 1), (TEMP, 0), (TEMP, 1)] {
+        for last in [result(CURRENT), result(TEMP), bound(0), bound(1)] {
+            let stage = (writes.len() % STAGES) as u8;
+            let three = [result(held_result), bound(held_bound), last];
+            writes.extend(three.map(|(state, value)| StateWrite {
+                stage,
+                state,
+                value,
+            }));
+        }
+    }
+    writes
 }
 
 /// Joins triples to inputs, each triple with the records that changed.

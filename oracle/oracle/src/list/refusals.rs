@@ -4,6 +4,7 @@ use super::{Case, coverage::emissions};
 use crate::{
     generate::{self, Rng, good_record},
     records::{Entry, Key, Kind, Refusal, STAGES, Variant, record},
+    states::{RESULT_ARG, StateWrite, TEXTURE_BOUND, TYPES},
     words, worked,
 };
 
@@ -19,11 +20,17 @@ pub fn inputs(rng: &mut Rng) -> Vec<Vec<u8>> {
         variants(),
         entries(),
         reserved(),
+        stages(),
+        types(),
+        values(),
     ];
     let behind: Vec<Vec<u8>> = alone.iter().flat_map(|bad| some_behind(rng, bad)).collect();
     let alone = alone.concat();
     [alone, behind, missing(rng), random(rng), vec![far(rng)]].concat()
 }
+
+/// The kinds of records that print nothing.
+const SILENT: [Kind; 4] = [Kind::Key, Kind::Variant, Kind::Entry, Kind::State];
 
 /// Eight of these, each behind up to nine records that print nothing.
 fn some_behind(rng: &mut Rng, bad: &[Vec<u8>]) -> Vec<Vec<u8>> {
@@ -34,7 +41,7 @@ fn some_behind(rng: &mut Rng, bad: &[Vec<u8>]) -> Vec<Vec<u8>> {
 fn behind_records(rng: &mut Rng, bad: &[u8]) -> Vec<u8> {
     let mut input = Vec::new();
     for _ in 0..=rng.below(9) {
-        let kind = rng.pick(&[Kind::Key, Kind::Variant, Kind::Entry]);
+        let kind = rng.pick(&SILENT);
         input.extend(good_record(rng, kind));
     }
     input.extend(bad);
@@ -44,7 +51,7 @@ fn behind_records(rng: &mut Rng, bad: &[u8]) -> Vec<u8> {
 /// Number 1: each record cut at each place, every third one with a bad body.
 fn cut(rng: &mut Rng) -> Vec<Vec<u8>> {
     let mut inputs = Vec::new();
-    for kind in [Kind::Key, Kind::Variant, Kind::Entry] {
+    for kind in SILENT {
         for left in 0..kind.size() {
             let mut whole = good_record(rng, kind);
             if left % 3 == 0 {
@@ -143,9 +150,55 @@ fn reserved() -> Vec<Vec<u8>> {
     alone.chain(worse).collect()
 }
 
-/// Number 7: each choice of records that is not all three, in each order.
+fn write(stage: u8, state: u8, value: u32) -> Vec<u8> {
+    let write = StateWrite {
+        stage,
+        state,
+        value,
+    };
+    record(Kind::State, &write.body())
+}
+
+/// Number 10: stages above 7, alone and beside a bad type and a bad value.
+fn stages() -> Vec<Vec<u8>> {
+    let bad = [8, 9, 10, 15, 16, 32, 64, 127, 128, 254, 255];
+    let alone = bad.iter().map(|&stage| write(stage, 1, 4));
+    let worse = bad.iter().map(|&stage| write(stage, 7, 1 << 31));
+    alone.chain(worse).collect()
+}
+
+/// Number 11: types up to 34 that there are not, and some above, alone and beside a bad value.
+fn types() -> Vec<Vec<u8>> {
+    let bad = (0..=34).chain([64, 128, 156, 254, 255]);
+    let bad: Vec<u8> = bad.filter(|state| !TYPES.contains(state)).collect();
+    let alone = bad.iter().map(|&state| write(7, state, 1));
+    let worse = bad.iter().step_by(4).map(|&state| write(0, state, 256));
+    alone.chain(worse).collect()
+}
+
+/// Number 12: each bit above the lowest eight beside a good byte, for some types; what the types 28 and 0 do not take.
+fn values() -> Vec<Vec<u8>> {
+    let mut inputs = Vec::new();
+    for (n, bit) in (8..32).enumerate() {
+        let state = TYPES[n % TYPES.len()];
+        inputs.push(write((n % STAGES) as u8, state, 1 | 1 << bit));
+    }
+    for state in TYPES {
+        inputs.extend([256, 257, u32::MAX].map(|value| write(3, state, value)));
+    }
+    let results = [0, 2, 3, 4, 6, 7, 0x15, 0x25, 255];
+    inputs.extend(results.map(|value| write(5, RESULT_ARG, value)));
+    let bounds = [2, 3, 4, 5, 128, 255];
+    inputs.extend(bounds.map(|value| write(5, TEXTURE_BOUND, value)));
+    inputs
+}
+
+/// Number 7: each choice of records that is not all three, in each order. A state write stands for a key.
 fn missing(rng: &mut Rng) -> Vec<Vec<u8>> {
-    let orders: [&[Kind]; 9] = [
+    let orders: [&[Kind]; 12] = [
+        &[Kind::State],
+        &[Kind::State, Kind::Variant],
+        &[Kind::Entry, Kind::State],
         &[Kind::Key],
         &[Kind::Variant],
         &[Kind::Entry],
@@ -174,7 +227,7 @@ fn missing(rng: &mut Rng) -> Vec<Vec<u8>> {
 /// Each number behind random records; two of each but 7 behind a printed text.
 fn random(rng: &mut Rng) -> Vec<Vec<u8>> {
     let mut inputs = Vec::new();
-    for &refusal in &Refusal::ALL[..8] {
+    for &refusal in Refusal::of_records() {
         inputs.extend((0..6).map(|_| refused(rng, refusal, 0)));
         if refusal != Refusal::NothingHeld {
             inputs.extend((0..2).map(|_| refused(rng, refusal, 1)));

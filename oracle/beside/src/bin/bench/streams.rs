@@ -17,6 +17,7 @@ use oraclelib::{
     program::{Held, Record},
     records::{Kind, Triple, record},
     rules,
+    states::StateWrite,
 };
 use yuzuknoll::{
     TEXT_LENGTH,
@@ -25,9 +26,10 @@ use yuzuknoll::{
 
 use crate::measure::{Clock, Row, Sides, measure};
 
-/// Everyday triples, a kind's records of them, and a stream of them all.
+/// Everyday triples, and as many state writes.
 struct Corpus {
     triples: Vec<Triple>,
+    writes: Vec<StateWrite>,
 }
 
 impl Corpus {
@@ -36,22 +38,31 @@ impl Corpus {
             Kind::Key => triple.key.body(),
             Kind::Variant => triple.variant.body(),
             Kind::Entry => triple.entry.body(),
-            Kind::Emit => Vec::new(),
+            Kind::Emit | Kind::State => Vec::new(),
         };
+        if kind == Kind::State {
+            return self
+                .writes
+                .iter()
+                .map(|w| record(kind, &w.body()))
+                .collect();
+        }
         let records = self.triples.iter().map(|t| record(kind, &body(t)));
         records.collect()
     }
 }
 
-const KINDS: [(&str, Kind); 3] = [
+const KINDS: [(&str, Kind); 4] = [
     ("key", Kind::Key),
     ("variant", Kind::Variant),
     ("entry", Kind::Entry),
+    ("state write", Kind::State),
 ];
 
 pub fn records(rng: &mut Rng, count: usize, passes: usize) -> Vec<Row> {
     let triples = (0..count).map(|_| generate::everyday(rng)).collect();
-    let corpus = Corpus { triples };
+    let writes = (0..count).map(|_| generate::write(rng)).collect();
+    let corpus = Corpus { triples, writes };
     let mut rows = Vec::new();
     for (name, kind) in KINDS {
         rows.push(read_row(name, &corpus.records(kind), passes));
@@ -152,7 +163,7 @@ fn hold_row(name: &str, records: &[Vec<u8>], passes: usize) -> Row {
     let sides = Sides {
         rust: Some(Box::new(|| {
             for record in records {
-                theirs.replace(Record::read(black_box(record)).expect("a good record"));
+                theirs.hold(Record::read(black_box(record)).expect("a good record"));
                 black_box(&mut theirs);
             }
         })),
@@ -276,7 +287,7 @@ fn rust_output(input: &[u8], out: &mut Vec<u8>) {
             out.extend_from_slice(text.as_bytes());
             texts += 1;
         } else {
-            held.replace(read);
+            held.hold(read);
         }
     }
     writeln!(out, "end {texts}").expect("room");

@@ -5,9 +5,13 @@
 //! refusal must leave the report as it was. Beside the step itself there are calls with other buffers, short ones among them, and with what is held
 //! damaged.
 //!
+//! Then lists of state writes, some of thousands, are applied one by one, and what is held is compared with a plain map from stage and type to the last
+//! value (`lists`).
+//!
 //! First the comparison is shown to fail: wrong functions are put in the place of the archive's, and each must be found. Prints the counts and the
 //! first differences; the exit status is 1 if there is any, or if a wrong function passes.
 
+mod lists;
 mod wrong;
 
 use std::process::ExitCode;
@@ -29,6 +33,8 @@ const SEED: u64 = 1;
 const COUNT: u64 = 25_000;
 /// Streams that each wrong function is given, always the same.
 const SELF_TEST: u64 = 300;
+/// A list of writes comes after so many streams.
+const STREAMS_A_LIST: u64 = 25;
 /// How many differences are printed.
 const SHOWN: u64 = 10;
 
@@ -54,6 +60,7 @@ fn main() -> ExitCode {
     );
     let mut run = Run::new(&Archive, seed);
     run.streams(count);
+    run.lists(count / STREAMS_A_LIST);
     run.print(seed);
     ExitCode::from(u8::from(run.differences != 0 || !missed.is_empty()))
 }
@@ -98,6 +105,7 @@ fn found(wrong: Wrong) -> bool {
     let mut run = Run::new(&wrong, SEED);
     run.shown = 0;
     run.streams(SELF_TEST);
+    run.lists(SELF_TEST / STREAMS_A_LIST);
     run.differences != 0
 }
 
@@ -113,7 +121,7 @@ fn stream(rng: &mut Rng) -> Stream {
         1 => open(generate::refused(rng, Refusal::LongInput).input),
         2..200 => generate::accepted(rng),
         200..600 => {
-            let refusal = rng.pick(&Refusal::ALL[..9]);
+            let refusal = rng.pick(Refusal::of_calls());
             generate::refused(rng, refusal)
         }
         600..850 => open(generate::damaged(rng)),
@@ -126,24 +134,29 @@ fn stream(rng: &mut Rng) -> Stream {
 fn noise(rng: &mut Rng) -> Vec<u8> {
     let mut bytes: Vec<u8> = (0..rng.below(130)).map(|_| rng.byte()).collect();
     if let Some(first) = bytes.first_mut() {
-        *first = rng.below(6) as u8;
+        *first = rng.below(7) as u8;
     }
     bytes
 }
 
+/// The kinds of the parts of what is held, in their order.
+const PARTS: [Kind; 3] = [Kind::Key, Kind::Variant, Kind::Entry];
+
 /// What is held, as yuzuknoll_apply is lent it.
 fn held_bytes(held: &Held) -> [u8; HELD_LENGTH] {
-    let part = |record: Option<Record>, kind| {
-        record.map_or_else(|| vec![0; length(kind)], |record| record.bytes())
+    let parts = PARTS.map(|kind| part(held, kind));
+    parts.concat().try_into().expect("three records")
+}
+
+/// The bytes of what is held that a record of a kind sets; zeros where nothing is held. A state write sets the key's.
+fn part(held: &Held, kind: Kind) -> Vec<u8> {
+    let record = match kind {
+        Kind::Key | Kind::State => held.key.map(Record::Key),
+        Kind::Variant => held.variant.map(Record::Variant),
+        Kind::Entry => held.entry.map(Record::Entry),
+        Kind::Emit => None,
     };
-    [
-        part(held.key.map(Record::Key), Kind::Key),
-        part(held.variant.map(Record::Variant), Kind::Variant),
-        part(held.entry.map(Record::Entry), Kind::Entry),
-    ]
-    .concat()
-    .try_into()
-    .expect("three records")
+    record.map_or_else(|| vec![0; length(kind)], |record| record.bytes())
 }
 
 /// What some lent bytes hold: a part that is no good record of its kind is not there.
@@ -163,10 +176,10 @@ fn held_of(bytes: &[u8; HELD_LENGTH]) -> Held {
     held
 }
 
-/// Where a kind's part begins in what is held.
+/// Where the part begins in what is held that a record of a kind sets.
 const fn place(kind: Kind) -> usize {
     match kind {
-        Kind::Key => 0,
+        Kind::Key | Kind::State => 0,
         Kind::Variant => length(Kind::Key),
         Kind::Entry => length(Kind::Key) + length(Kind::Variant),
         Kind::Emit => HELD_LENGTH,
@@ -176,7 +189,8 @@ const fn place(kind: Kind) -> usize {
 /// What must come of a record that is applied, whatever the buffer's length; what a record emits is made once for all buffers.
 enum Step {
     Refused(Refusal),
-    Replaced(Record),
+    /// A record of a kind was taken, and this is held then.
+    Holds(Kind, Held),
     Text(Outcome),
 }
 
@@ -189,7 +203,11 @@ impl Step {
                 Ok(outcome) => Self::Text(outcome),
                 Err(refusal) => Self::Refused(refusal),
             },
-            Ok(record) => Self::Replaced(record),
+            Ok(record) => {
+                let mut after = *held;
+                after.hold(record);
+                Self::Holds(record.kind(), after)
+            }
         }
     }
 
@@ -197,7 +215,7 @@ impl Step {
     fn result(&self, room: usize) -> Result<Applied, Refusal> {
         match self {
             Self::Refused(refusal) => Err(*refusal),
-            Self::Replaced(record) => Ok(applied(record.kind(), None)),
+            Self::Holds(kind, _) => Ok(applied(*kind, None)),
             Self::Text(outcome) if outcome.text.len() > room => Err(Refusal::LongText),
             Self::Text(outcome) => Ok(applied(Kind::Emit, Some(outcome))),
         }
@@ -212,7 +230,10 @@ struct Run<'a> {
     streams: u64,
     /// Calls of the three functions, and refusals that they had to answer, by number.
     calls: [u64; 3],
-    refused: [[u64; 14]; 3],
+    refused: [[u64; NUMBERS]; 3],
+    /// Lists of state writes, and the writes in them.
+    lists: u64,
+    writes: u64,
     ended: u64,
     damaged: u64,
     texts: u64,
@@ -221,6 +242,9 @@ struct Run<'a> {
     differences: u64,
     shown: u64,
 }
+
+/// More than the numbers of refusals.
+const NUMBERS: usize = 14;
 
 const READ: usize = 0;
 const WRITE: usize = 1;
@@ -235,7 +259,9 @@ impl<'a> Run<'a> {
             out: Lent::new(),
             streams: 0,
             calls: [0; 3],
-            refused: [[0; 14]; 3],
+            refused: [[0; NUMBERS]; 3],
+            lists: 0,
+            writes: 0,
             ended: 0,
             damaged: 0,
             texts: 0,
@@ -282,8 +308,8 @@ impl<'a> Run<'a> {
                 return None;
             }
             at += taken;
-            if let Step::Replaced(record) = step {
-                theirs.replace(record);
+            if let Step::Holds(_, after) = step {
+                theirs = after;
             }
             self.check(ours == held_bytes(&theirs), || {
                 format!("held after {rest:02x?}: {ours:02x?}")
@@ -372,7 +398,10 @@ impl<'a> Run<'a> {
         self.damaged += 1;
         for _ in 0..=rng.below(2) {
             let any = rng.below(HELD_LENGTH);
-            let at = rng.pick(&[0, 7, 57, 59, 78, 79, 80, 81, any]);
+            let kind = place(rng.pick(&PARTS));
+            let first_flags = place(Kind::Key) + 7;
+            let specular = place(Kind::Variant) - 2;
+            let at = rng.pick(&[kind, kind, kind + 1, kind + 2, first_flags, specular, any]);
             held[at] = rng.byte();
         }
         let step = Step::of(&held_of(&held), Record::read(bytes));
@@ -394,7 +423,7 @@ impl<'a> Run<'a> {
         let before = Applied::filled(start);
         let expected = Answer::of(step.result(room), before);
         match step {
-            Step::Replaced(record) => self.held.expect(place(record.kind()), &record.bytes()),
+            Step::Holds(kind, after) => self.held.expect(place(*kind), &part(after, *kind)),
             Step::Text(outcome) if expected.number == 0 => {
                 self.out.expect(0, outcome.text.as_bytes());
                 self.texts += 1;
@@ -450,7 +479,7 @@ impl<'a> Run<'a> {
             self.streams, self.ended, self.damaged
         );
         for (name, function) in [("read", READ), ("write", WRITE), ("apply", APPLY)] {
-            let numbers = (1..14).filter(|&n| self.refused[function][n] != 0);
+            let numbers = (1..NUMBERS).filter(|&n| self.refused[function][n] != 0);
             let numbers: Vec<String> = numbers
                 .map(|n| format!(" {n}: {}", self.refused[function][n]))
                 .collect();
@@ -460,6 +489,10 @@ impl<'a> Run<'a> {
                 numbers.join(",")
             );
         }
+        println!(
+            "{} lists of state writes, {} writes",
+            self.lists, self.writes
+        );
         println!(
             "{} texts, {} bytes of text, {} bytes of buffers, {} differences",
             self.texts, self.text, self.bytes, self.differences

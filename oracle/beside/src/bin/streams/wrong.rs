@@ -1,8 +1,14 @@
 //! Wrong functions, by which the comparison is shown to fail: each does what the archive does, and one thing else.
 
+use beside::length;
+use oraclelib::{
+    program::Record,
+    records::{Kind, TEXTURED},
+    states::{self, RESULT_ARG, StateWrite},
+};
 use yuzuknoll::raw::{self, Applied, Emitted, HELD_LENGTH};
 
-use crate::{Archive, Functions, held_bytes, held_of};
+use crate::{Archive, Functions, held_bytes, held_of, lists, place};
 
 /// What a wrong function does.
 #[derive(Clone, Copy, Debug)]
@@ -38,10 +44,23 @@ pub enum Wrong {
     ApplyAnswers1For7,
     ApplyAnswers6For13,
     ApplyAnswersNoRoomEarly,
+    ReadPassesABadValue,
+    ReadAnswers12Before11,
+    ReadAnswers11Before10,
+    WriteAnswers8Before12,
+    FirstWriteWins,
+    DefaultArgumentsExchanged,
+    ResultClearsTheTexture,
+    WriteAtTheNextStage,
+    WriteClearsSpecular,
+    WriteBeginsAnew,
+    WriteKeepsABadKey,
+    RefusedWriteHoldsTheDefaults,
+    ApplyHoldsTheWritesRecord,
 }
 
 impl Wrong {
-    pub const ALL: [Self; 31] = [
+    pub const ALL: [Self; 44] = [
         Self::ReadTakesOneMore,
         Self::ReadNamesAnotherKind,
         Self::ReadPutsKindAfterLength,
@@ -73,13 +92,95 @@ impl Wrong {
         Self::ApplyAnswers1For7,
         Self::ApplyAnswers6For13,
         Self::ApplyAnswersNoRoomEarly,
+        Self::ReadPassesABadValue,
+        Self::ReadAnswers12Before11,
+        Self::ReadAnswers11Before10,
+        Self::WriteAnswers8Before12,
+        Self::FirstWriteWins,
+        Self::DefaultArgumentsExchanged,
+        Self::ResultClearsTheTexture,
+        Self::WriteAtTheNextStage,
+        Self::WriteClearsSpecular,
+        Self::WriteBeginsAnew,
+        Self::WriteKeepsABadKey,
+        Self::RefusedWriteHoldsTheDefaults,
+        Self::ApplyHoldsTheWritesRecord,
     ];
+
+    /// What a wrong function makes of what was held before an accepted write, and of what is held after it.
+    fn spoil_write(
+        self,
+        write: &StateWrite,
+        before: &[u8; HELD_LENGTH],
+        held: &mut [u8; HELD_LENGTH],
+    ) {
+        let had_key = held_of(before).key;
+        let mut after = held_of(held);
+        let Some(key) = &mut after.key else {
+            return;
+        };
+        let stage = usize::from(write.stage);
+        match self {
+            Self::FirstWriteWins => {
+                // A state that has no default value any more was written before.
+                let state = (write.stage, write.state);
+                match had_key {
+                    Some(had) if lists::states_of(before)[&state] != lists::defaults()[&state] => {
+                        *key = had;
+                    }
+                    _ => return,
+                }
+            }
+            Self::DefaultArgumentsExchanged if had_key.is_none() => {
+                for stage in &mut key.stages {
+                    (stage.color.arg1, stage.color.arg2) = (stage.color.arg2, stage.color.arg1);
+                }
+                *key = write.done(*key);
+            }
+            Self::ResultClearsTheTexture if write.state == RESULT_ARG => {
+                key.stages[stage].flags &= !TEXTURED;
+            }
+            Self::WriteAtTheNextStage => {
+                let next = StateWrite {
+                    stage: (write.stage + 1) % 8,
+                    ..*write
+                };
+                *key = next.done(had_key.unwrap_or_else(states::defaults));
+            }
+            Self::WriteClearsSpecular => key.specular = 0,
+            Self::WriteBeginsAnew => *key = write.done(states::defaults()),
+            Self::WriteKeepsABadKey if had_key.is_none() && before[0] != 0 => {
+                *held = *before;
+                return;
+            }
+            Self::ApplyHoldsTheWritesRecord => {
+                let record = Record::State(*write).bytes();
+                held[..record.len()].copy_from_slice(&record);
+                return;
+            }
+            _ => return,
+        }
+        let key = Record::Key(*key).bytes();
+        held[..key.len()].copy_from_slice(&key);
+    }
 }
 
-const KEY: u64 = 1;
-const VARIANT: u64 = 2;
-const ENTRY: u64 = 3;
-const EMIT: u64 = 4;
+const KEY: u64 = Kind::Key as u64;
+const VARIANT: u64 = Kind::Variant as u64;
+const ENTRY: u64 = Kind::Entry as u64;
+const EMIT: u64 = Kind::Emit as u64;
+
+/// The write at the front of some bytes, if it is whole.
+fn write_in(bytes: &[u8]) -> Option<StateWrite> {
+    let record = bytes.get(..length(Kind::State))?;
+    (record[0] == Kind::State as u8).then(|| StateWrite::from_body(&record[1..]))
+}
+
+/// The report of a record that is passed.
+fn passed(kind: Kind, report: &mut raw::Record) -> u64 {
+    *report = beside::taken(kind);
+    0
+}
 
 fn spoil(byte: Option<&mut u8>) {
     if let Some(byte) = byte {
@@ -95,19 +196,23 @@ impl Functions for Wrong {
             Self::ReadTakesOneMore if accepted => report.taken += 1,
             Self::ReadNamesAnotherKind if report.kind == ENTRY => report.kind = VARIANT,
             Self::ReadPutsKindAfterLength if number == 2 && bytes.len() < 20 => return 1,
-            Self::ReadPassesSpecular if number == 4 => {
-                *report = raw::Record {
-                    kind: KEY,
-                    taken: 59,
-                };
-                return 0;
+            Self::ReadPassesSpecular if number == 4 => return passed(Kind::Key, report),
+            Self::ReadPassesAWord if number == 13 => return passed(Kind::Entry, report),
+            // The value is judged by its lowest byte.
+            Self::ReadPassesABadValue if number == 12 => {
+                if write_in(bytes).is_some_and(|write| write.value & 0xff == 1) {
+                    return passed(Kind::State, report);
+                }
             }
-            Self::ReadPassesAWord if number == 13 => {
-                *report = raw::Record {
-                    kind: ENTRY,
-                    taken: 34,
-                };
-                return 0;
+            Self::ReadAnswers12Before11 if number == 11 => {
+                if write_in(bytes).is_some_and(|write| write.value > 255) {
+                    return 12;
+                }
+            }
+            Self::ReadAnswers11Before10 if number == 10 => {
+                if write_in(bytes).is_some_and(|w| !states::TYPES.contains(&w.state)) {
+                    return 11;
+                }
             }
             Self::ReadReportsAHighBit if accepted => report.kind |= 1 << 63,
             Self::ReadReportsOnRefusal if !accepted => report.taken = 0,
@@ -131,7 +236,12 @@ impl Functions for Wrong {
             match self {
                 Self::WriteWritesOnRefusal => spoil(out.first_mut()),
                 Self::WriteAnswersAnotherNumber if number == 8 => return 1,
-                Self::WriteAnswers8Before13 if number == 13 && out.len() < 34 => return 8,
+                Self::WriteAnswers8Before13 if number == 13 && out.len() < length(Kind::Entry) => {
+                    return 8;
+                }
+                Self::WriteAnswers8Before12 if number == 12 && out.len() < length(Kind::State) => {
+                    return 8;
+                }
                 Self::WriteReportsOnRefusal => report.kind = 0,
                 _ => {}
             }
@@ -151,8 +261,15 @@ impl Functions for Wrong {
         if let Self::ApplyClearsABadPart = self {
             *held = held_bytes(&held_of(held));
         }
+        let write = write_in(bytes);
         if number != 0 {
             match self {
+                Self::RefusedWriteHoldsTheDefaults
+                    if write.is_some() && held_of(held).key.is_none() =>
+                {
+                    let key = Record::Key(states::defaults()).bytes();
+                    held[..key.len()].copy_from_slice(&key);
+                }
                 Self::ApplyHoldsOnRefusal => spoil(held.first_mut()),
                 Self::ApplyWritesOnRefusal => spoil(text.last_mut()),
                 Self::ApplyReportsOnRefusal => report.result = Emitted::default(),
@@ -162,10 +279,15 @@ impl Functions for Wrong {
             }
             return number;
         }
+        if let Some(write) = write {
+            self.spoil_write(&write, &before, held);
+        }
         let length = report.result.length as usize;
         match self {
             Self::ApplyForgetsTheEntry if report.kind == ENTRY => *held = before,
-            Self::ApplyForgetsTheOthers if report.kind == VARIANT => held[..59].fill(0),
+            Self::ApplyForgetsTheOthers if report.kind == VARIANT => {
+                held[..place(Kind::Variant)].fill(0);
+            }
             Self::ApplyClearsTheByteBehind if length != 0 => spoil(text.get_mut(length)),
             Self::ApplyWritesAnotherByte if length != 0 => spoil(text.get_mut(length - 1)),
             Self::ApplyDropsTheMask => report.result.mask = 0,
