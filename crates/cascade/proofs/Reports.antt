@@ -7,7 +7,7 @@ use native.Mathlib.Omega.{arith}
 use borrow.Author.Tests.{ne-eqb, eq-eqb, eqb-true, eqb-false}
 use lib.Dec.{eqb}
 use lib.ListN.{length}
-use Rattle.combiners.specs.Warnings.{Cause, opCause, selectorCause, modifierCause, causeNumber, Report, withoutText, unknownSelector, unknownModifier, reportIf, appliedReports, reported, maskFrom}
+use Rattle.combiners.specs.Warnings.{Cause, opCause, selectorCause, modifierCause, causeNumber, Report, unknownSelector, unknownModifier, reportIf, appliedReports, reported, maskFrom}
 use Rattle.cascade.specs.Keys.{stagesWhere}
 use Rattle.cascade.specs.Warnings.{appliesColour, appliesAlpha, combinerReports, stageReports, reportsFrom, warnedStages}
 use Rattle.cascade.specs.Walks.{gives, warns}

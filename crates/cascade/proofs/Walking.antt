@@ -110,7 +110,12 @@ module _ (l : List Stage) (n i : ℕ) (w : Walk l n i) (p : 0 < i) where
   unfolding factsOf
   facts-small f e =
       rw e
-      (record { mask = few-where textured; op = few-where (warns opCause); selector = few-where (warns selectorCause); modifier = few-where (warns modifierCause) })
+      (record {
+        mask = few-where textured;
+        op = few-where (warns opCause);
+        selector = few-where (warns selectorCause);
+        modifier = few-where (warns modifierCause);
+      })
 
   pub few-marks : (alive : Bool) (m : Marks) → m ≡ marksFrom alive (drop i (active l)) → m .marks < 128
   unfolding marksFrom

@@ -54,7 +54,8 @@ example = (1 ∷ 1 ∷ replicate 57 0) ++ (2 ∷ replicate 19 0) ++ (3 ∷ 1 ∷
 example-printed : programOutput example ≡ linesOf ("emit 0 0 0 0 0 0 0" ∷ (z1Lines ++ ("end 1" ∷ [])))
 unfolding example programOutput printedFrom printed emitLine endLine decimalOf
     holding applyRead applyAs readRecord readAs readBody blankKey blankVariant blankEntry keyFromBody stagesFromBytes variantFromBody entryFromBody
-    active stagesWhere lastConstant anyFactor rowsOf live lookupsOf readsBumpEnv reported maskFrom reportsFrom warnedStages stageFlagsBad all entryGood reservedWord answerOf
+    active stagesWhere lastConstant anyFactor rowsOf live lookupsOf readsBumpEnv reported maskFrom reportsFrom warnedStages
+    stageFlagsBad all entryGood reservedWord answerOf
     specularText fogText testText srgbText returnText outputText varyingsText srgbHelperText fragmentText frontText stageInText samplersText
     parametersText spriteText stagesText localsText bodyText wholeText
 example-printed = refl

@@ -159,7 +159,9 @@ contains p (y ∷ t) = begins p (y ∷ t) || contains p t
 
 -- the masks of ops, selectors and modifiers, and whether the alpha function warns
 abbrev pub warned : ℕ → ℕ → ℕ → Bool → Emitted → Bool
-warned o s m a e = eqb (e .«op_warnings») o && (eqb (e .«selector_warnings») s && (eqb (e .«modifier_warnings») m && cond a (e .«alpha_warning») (not (e .«alpha_warning»))))
+warned o s m a e =
+    eqb (e .«op_warnings») o
+    && (eqb (e .«selector_warnings») s && (eqb (e .«modifier_warnings») m && cond a (e .«alpha_warning») (not (e .«alpha_warning»))))
 
 abbrev pub holds : Worked → Named → Bool
 holds w (whole ls) = same (linesOf ls) (textOf (workedKey w) (workedVariant w) entryM)

@@ -2,7 +2,7 @@
 -- of records/specs/Applying, for the values that the held bytes stand for.
 use Prim.Native.Nat.{ℕ, _+_}
 use mathlib.Core.Bool.{Bool, _&&_}
-use mathlib.Core.List.{List, [], _∷_, _++_}
+use mathlib.Core.List.{List, [], _++_}
 use lib.Dec.{eqb}
 use lib.ListN.{take, drop, getD, replicate}
 use lib.Seq.{sets}

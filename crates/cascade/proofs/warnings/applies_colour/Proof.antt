@@ -3,6 +3,9 @@ use Rattle.cascade.specs.Warnings.{appliesColour}
 use Rattle.cascade.proofs.warnings.applies_colour.Statement.{statement}
 use Rattle.cascade.proofs.warnings.applies_colour.Tie as tie
 
-pub applies-colour-spec : {M : Type 1} → statement M
+returns : tie.Need-returns
 unfolding appliesColour
-applies-colour-spec = tie.close (tie.spec (λ c κs. tt) (λ c κs. tt) (λ c κs. tt) (λ c. rw (c .before .before .is-bump .ensures, c .falls-back .ensures, c .before .textured .ensures)))
+returns c = let texture = c .before in rw (texture .before .is-bump .ensures, c .falls-back .ensures, texture .textured .ensures)
+
+pub applies-colour-spec : {M : Type 1} → statement M
+applies-colour-spec = tie.close (tie.spec (λ c κs. tt) (λ c κs. tt) (λ c κs. tt) returns)

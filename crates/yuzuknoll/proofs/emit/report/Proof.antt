@@ -8,4 +8,6 @@ returns : tie.Need-returns
 returns c = rw yes-as-one
 
 pub report-spec : {M : Type 1} → statement M
-report-spec = tie.close (tie.spec (λ c. search needs) (λ c. search needs) (λ c. search needs) (λ c. search needs) (λ c. search needs) (λ c. search needs) (λ c. search needs) returns)
+report-spec =
+    let counts = tie.spec (λ c. search needs) (λ c. search needs) (λ c. search needs) in
+    tie.close (counts (λ c. search needs) (λ c. search needs) (λ c. search needs) (λ c. search needs) returns)
