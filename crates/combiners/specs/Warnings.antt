@@ -27,6 +27,7 @@ withoutText o = not (hasText o)
 abbrev pub unknownSelector : ℕ → Bool
 unknownSelector a = leb 7 (selector a)
 
+-- a byte from 0x40 on is one "with bits 0xc0": it has bit 0x40 or 0x80
 abbrev pub unknownModifier : ℕ → Bool
 unknownModifier a = leb 0x40 a
 

@@ -7,7 +7,7 @@ use Rattle.wire.specs.Reading.{bodyNumber}
 use Rattle.wire.specs.declared.Kind.the-variants as kind
 use Rattle.yuzuknoll.specs.Lent.{firstOf, resultNumbers}
 
--- A key is refused as in a record, with 3, then 4; then 5, 6 and 8 are emission's. room is the length of the buffer.
+-- A key is refused as in a record, with 3, then 4; then 5, 6, 13 and 8 are emission's. room is the length of the buffer.
 abbrev pub bodiesNumber : List ℕ → List ℕ → List ℕ → ℕ → ℕ
 bodiesNumber k v e room =
     firstOf (bodyNumber kind.Key k) (emissionNumber (keyFromBody k) (variantFromBody v) (entryFromBody e) room)

@@ -186,8 +186,7 @@ fn emit_record(held: &[u8], text: &mut [u8], applied: &mut [u64; APPLIED_LENGTH]
 }
 
 // Applies the record at the front of bytes: it is held, or writes the text of what is held to the front of text. Reports its kind and length, and
-// the text's length, mask, rows, lookups and warnings, which are 0 for a record that is held.
-// A state write counts as held: the held key is then the altered one.
+// the text's length, mask, rows, lookups and warnings, which are 0 for a record that is held. After a state write the held key is the altered one.
 #[no_mangle]
 pub extern "C" fn yuzuknoll_apply(
     held: &mut [u8; 113],

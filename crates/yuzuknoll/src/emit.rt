@@ -39,7 +39,7 @@ fn report(emitted: Emitted, result: &mut [u64; RESULT_LENGTH])
     ];
 }
 
-// From values that are free of the causes 3, 5 and 6.
+// From values that are free of the causes 3, 5, 6 and 13.
 pub(crate) fn emit_values(
     key: Key,
     variant: Variant,
