@@ -5,8 +5,8 @@
  * ways. After each call every byte of these pages is compared with what must stand there, the structs for reports among them.
  *
  * An input: the length of the text's buffer (two bytes, low byte first), of the written record's, what is held, and records. The key, the
- * variant and the entry for yuzuknoll_emit are the bytes of what is held behind the kinds. The calls on an entry's bytes are given those of this entry,
- * and the first bytes of what is held as a state that no pass makes.
+ * variant and the entry for yuzuknoll_emit and yuzuknoll_emit_wide are the bytes of what is held behind the kinds. The calls on an entry's bytes are
+ * given those of this entry, and the first bytes of what is held as a state that no pass makes.
  */
 #define _GNU_SOURCE
 #include <stdio.h>
@@ -22,10 +22,11 @@
 #define HEAD 3
 #define FRONT (HEAD + YUZUKNOLL_HELD_LENGTH)
 
-/* Where the parts of what is held begin. */
+/* Where the parts of what is held begin. The key's has room for either kind. */
 #define KEY_AT 0
-#define VARIANT_AT (KEY_AT + YUZUKNOLL_KEY_RECORD_LENGTH)
+#define VARIANT_AT (KEY_AT + YUZUKNOLL_WIDE_KEY_RECORD_LENGTH)
 #define ENTRY_AT (VARIANT_AT + YUZUKNOLL_VARIANT_RECORD_LENGTH)
+_Static_assert(KEY_AT == YUZUKNOLL_HELD_KEY && VARIANT_AT == YUZUKNOLL_HELD_VARIANT && ENTRY_AT == YUZUKNOLL_HELD_ENTRY, "the header says so");
 
 enum { KEY, VARIANT, ENTRY, BYTES, HELD, TEXT, REPORT, STATE, BUFFERS };
 
@@ -92,22 +93,56 @@ static int count_bits(uint64_t mask) {
     return bits;
 }
 
+/* A key of either kind. One that is not wide has CURRENT as its arguments 0, as if it were widened. */
+struct any_key {
+    int wide;
+    yuzuknoll_wide_key key;
+};
+
+static struct any_key of_key(const yuzuknoll_key *key) {
+    struct any_key any = {0, {.specular = key->specular, .projected = key->projected}};
+    for (int i = 0; i < 8; i++) {
+        const yuzuknoll_stage *stage = &key->stages[i];
+        any.key.stages[i] = (yuzuknoll_wide_stage){stage->colour_op,  stage->colour_arg1, stage->colour_arg2,    stage->alpha_op, stage->alpha_arg1,
+                                                   stage->alpha_arg2, YUZUKNOLL_ARG_CURRENT, YUZUKNOLL_ARG_CURRENT, stage->flags};
+    }
+    return any;
+}
+
+static struct any_key of_wide_key(const yuzuknoll_wide_key *key) { return (struct any_key){1, *key}; }
+
+static yuzuknoll_key without_arguments0(const yuzuknoll_wide_key *wide) {
+    yuzuknoll_key key = {.specular = wide->specular, .projected = wide->projected};
+    for (int i = 0; i < 8; i++) {
+        const yuzuknoll_wide_stage *stage = &wide->stages[i];
+        key.stages[i] = (yuzuknoll_stage){stage->colour_op,  stage->colour_arg1, stage->colour_arg2, stage->alpha_op,
+                                          stage->alpha_arg1, stage->alpha_arg2,  stage->flags};
+    }
+    return key;
+}
+
+static int takes_three(uint8_t op) { return op == YUZUKNOLL_OP_MULTIPLYADD || op == YUZUKNOLL_OP_LERP; }
+
+static unsigned no_selector(uint8_t argument) { return (argument & 15) > YUZUKNOLL_ARG_CONSTANT; }
+static unsigned no_modifier(uint8_t argument) { return (argument & 0xc0) != 0; }
+
 /* What an op and its arguments may warn of: bit 0 the op, bit 1 a selector, bit 2 a modifier. */
-static unsigned causes(uint8_t op, uint8_t arg1, uint8_t arg2) {
-    unsigned no_formula = op == 0 || op == 17 || op > YUZUKNOLL_OP_DOTPRODUCT3;
-    unsigned no_selector = (arg1 & 15) > YUZUKNOLL_ARG_CONSTANT || (arg2 & 15) > YUZUKNOLL_ARG_CONSTANT;
-    unsigned no_modifier = ((arg1 | arg2) & 0xc0) != 0;
-    return no_formula | no_selector << 1 | no_modifier << 2;
+static unsigned causes(int wide, uint8_t op, uint8_t arg0, uint8_t arg1, uint8_t arg2) {
+    int three = wide && takes_three(op);
+    unsigned no_formula = op == 0 || op == 17 || (op > YUZUKNOLL_OP_DOTPRODUCT3 && !three);
+    unsigned selector = no_selector(arg1) | no_selector(arg2) | (three && no_selector(arg0));
+    unsigned modifier = no_modifier(arg1) | no_modifier(arg2) | (three && no_modifier(arg0));
+    return no_formula | selector << 1 | modifier << 2;
 }
 
 /* No stage warns without a cause. With a texture nothing falls back, so colour's causes must warn there, unless it is a bump stage. */
-static void check_warnings(const yuzuknoll_key *key, const yuzuknoll_variant *variant, const yuzuknoll_result *result) {
+static void check_warnings(const struct any_key *any, const yuzuknoll_variant *variant, const yuzuknoll_result *result) {
     int active = 1;
     for (int i = 0; i < 8; i++) {
-        const yuzuknoll_stage *stage = &key->stages[i];
+        const yuzuknoll_wide_stage *stage = &any->key.stages[i];
         int bump = stage->colour_op == YUZUKNOLL_OP_BUMPENVMAP || stage->colour_op == YUZUKNOLL_OP_BUMPENVMAPLUMINANCE;
-        unsigned colour = causes(stage->colour_op, stage->colour_arg1, stage->colour_arg2);
-        unsigned alpha = causes(stage->alpha_op, stage->alpha_arg1, stage->alpha_arg2);
+        unsigned colour = causes(any->wide, stage->colour_op, stage->colour_arg0, stage->colour_arg1, stage->colour_arg2);
+        unsigned alpha = causes(any->wide, stage->alpha_op, stage->alpha_arg0, stage->alpha_arg1, stage->alpha_arg2);
         unsigned got = (result->op_warnings >> i & 1) | (result->selector_warnings >> i & 1) << 1 | (result->modifier_warnings >> i & 1) << 2;
         active = active && stage->colour_op != YUZUKNOLL_OP_DISABLE;
         must((got & ~(active ? colour | alpha : 0)) == 0, "a warning without a cause");
@@ -118,7 +153,7 @@ static void check_warnings(const yuzuknoll_key *key, const yuzuknoll_variant *va
 }
 
 /* What is said of every accepted emission, and of its text. */
-static void check_emitted(const yuzuknoll_key *key, const yuzuknoll_variant *variant, const yuzuknoll_result *result, const uint8_t *text,
+static void check_emitted(const struct any_key *key, const yuzuknoll_variant *variant, const yuzuknoll_result *result, const uint8_t *text,
                           size_t room) {
     static const char front[] = "#include <metal_stdlib>\n", back[] = ";\n}\n";
     size_t length = result->length, ends = sizeof back - 1;
@@ -151,7 +186,7 @@ static uint64_t refusal_of_write(const yuzuknoll_state_write *write) {
     int good = value <= 255;
     if (write->stage > 7)
         return YUZUKNOLL_REFUSED_STAGE_NUMBER;
-    if (write->type > YUZUKNOLL_STATE_ALPHA_ARG2 && write->type != YUZUKNOLL_STATE_RESULT_ARG)
+    if (write->type > YUZUKNOLL_STATE_ALPHA_ARG2 && (write->type < YUZUKNOLL_STATE_COLOUR_ARG0 || write->type > YUZUKNOLL_STATE_RESULT_ARG))
         return YUZUKNOLL_REFUSED_STATE_TYPE;
     if (write->type == YUZUKNOLL_STATE_RESULT_ARG)
         good = value == YUZUKNOLL_ARG_CURRENT || value == YUZUKNOLL_ARG_TEMP;
@@ -174,9 +209,10 @@ static yuzuknoll_key defaults(void) {
 }
 
 /* A good write, done to a key. */
-static void set_state(yuzuknoll_key *key, const yuzuknoll_state_write *write) {
-    yuzuknoll_stage *stage = &key->stages[write->stage];
+static void set_state(struct any_key *any, const yuzuknoll_state_write *write) {
+    yuzuknoll_wide_stage *stage = &any->key.stages[write->stage];
     uint8_t value = write->value[0];
+    any->wide |= write->type == YUZUKNOLL_STATE_COLOUR_ARG0 || write->type == YUZUKNOLL_STATE_ALPHA_ARG0;
     switch (write->type) {
     case YUZUKNOLL_STATE_COLOUR_OP: stage->colour_op = value; break;
     case YUZUKNOLL_STATE_COLOUR_ARG1: stage->colour_arg1 = value; break;
@@ -184,6 +220,8 @@ static void set_state(yuzuknoll_key *key, const yuzuknoll_state_write *write) {
     case YUZUKNOLL_STATE_ALPHA_OP: stage->alpha_op = value; break;
     case YUZUKNOLL_STATE_ALPHA_ARG1: stage->alpha_arg1 = value; break;
     case YUZUKNOLL_STATE_ALPHA_ARG2: stage->alpha_arg2 = value; break;
+    case YUZUKNOLL_STATE_COLOUR_ARG0: stage->colour_arg0 = value; break;
+    case YUZUKNOLL_STATE_ALPHA_ARG0: stage->alpha_arg0 = value; break;
     case YUZUKNOLL_STATE_RESULT_ARG:
         stage->flags = (stage->flags & YUZUKNOLL_STAGE_TEXTURED) | (value == YUZUKNOLL_ARG_TEMP ? YUZUKNOLL_STAGE_TO_TEMP : 0);
         break;
@@ -209,13 +247,13 @@ static void check_refusal(const struct lent *bytes, uint64_t refusal) {
 /* yuzuknoll_read, to which the other calls are held. */
 static uint64_t check_read(struct lent *bytes, yuzuknoll_record *record) {
     static const size_t lengths[] = {YUZUKNOLL_KEY_RECORD_LENGTH, YUZUKNOLL_VARIANT_RECORD_LENGTH, YUZUKNOLL_ENTRY_RECORD_LENGTH,
-                                     YUZUKNOLL_EMIT_RECORD_LENGTH, YUZUKNOLL_STATE_RECORD_LENGTH};
+                                     YUZUKNOLL_EMIT_RECORD_LENGTH, YUZUKNOLL_STATE_RECORD_LENGTH, YUZUKNOLL_WIDE_KEY_RECORD_LENGTH};
     struct lent *report = lend_room(REPORT, sizeof *record);
     uint64_t refusal = yuzuknoll_read(bytes->bytes, bytes->length, report->bytes);
     check_refusal(bytes, refusal);
     if (refusal == YUZUKNOLL_ACCEPTED) {
         memcpy(record, report->bytes, sizeof *record);
-        must(record->kind >= YUZUKNOLL_KIND_KEY && record->kind <= YUZUKNOLL_KIND_STATE, "read: no kind");
+        must(record->kind >= YUZUKNOLL_KIND_KEY && record->kind <= YUZUKNOLL_KIND_WIDE_KEY, "read: no kind");
         must(record->kind == *(uint8_t *)bytes->bytes, "read: another kind");
         must(record->taken == lengths[record->kind - 1] && record->taken <= bytes->length, "read: another length");
         expect(report, 0, record, sizeof *record);
@@ -244,15 +282,17 @@ static void check_write(struct lent *bytes, uint64_t read, const yuzuknoll_recor
 
 /* What yuzuknoll_read says of the body of a record of a kind. */
 static uint64_t refusal_of(uint8_t kind, const struct lent *body) {
-    uint8_t record[YUZUKNOLL_KEY_RECORD_LENGTH] = {kind};
+    uint8_t record[YUZUKNOLL_WIDE_KEY_RECORD_LENGTH] = {kind};
     yuzuknoll_record report;
     memcpy(record + 1, body->bytes, body->length);
     return yuzuknoll_read(record, 1 + body->length, &report);
 }
 
-/* What yuzuknoll_emit must answer where there is room for every text. */
+static int is_wide(const struct lent *key) { return key->length == sizeof(yuzuknoll_wide_key); }
+
+/* What the emission of a key of either kind must answer where there is room for every text. */
 static uint64_t refusal_of_values(const struct lent *key, const struct lent *variant, const struct lent *entry) {
-    uint64_t refusal = refusal_of(YUZUKNOLL_KIND_KEY, key);
+    uint64_t refusal = refusal_of(is_wide(key) ? YUZUKNOLL_KIND_WIDE_KEY : YUZUKNOLL_KIND_KEY, key);
     if (refusal == YUZUKNOLL_ACCEPTED)
         refusal = refusal_of(YUZUKNOLL_KIND_VARIANT, variant);
     if (refusal == YUZUKNOLL_ACCEPTED)
@@ -260,14 +300,33 @@ static uint64_t refusal_of_values(const struct lent *key, const struct lent *var
     return refusal;
 }
 
-/* yuzuknoll_emit on structs of any bytes. Its text is left in the buffer. */
+/* A wide key without ops of three operands gives what its key without arguments 0 gives. */
+static void check_narrowed(const yuzuknoll_wide_key *wide, const struct lent *variant, const struct lent *entry, const yuzuknoll_result *result,
+                           const uint8_t *text) {
+    static uint8_t narrow_text[YUZUKNOLL_TEXT_LENGTH];
+    yuzuknoll_key key = without_arguments0(wide);
+    yuzuknoll_result narrow;
+    for (int i = 0; i < 8; i++)
+        if (takes_three(key.stages[i].colour_op) || takes_three(key.stages[i].alpha_op))
+            return;
+    must(yuzuknoll_emit(&key, variant->bytes, entry->bytes, narrow_text, sizeof narrow_text, &narrow) == YUZUKNOLL_ACCEPTED,
+         "emit_wide: accepted, and its key is not");
+    must(memcmp(&narrow, result, sizeof narrow) == 0 && memcmp(narrow_text, text, narrow.length) == 0, "emit_wide: another text than of its key");
+    note(15, 1);
+}
+
+/* yuzuknoll_emit or yuzuknoll_emit_wide, by the key's length, on structs of any bytes. The text is left in the buffer. */
 static uint64_t check_emit(struct lent *key, struct lent *variant, struct lent *entry, size_t room, yuzuknoll_result *result) {
     struct lent *out = lend_room(TEXT, room), *report = lend_room(REPORT, sizeof *result);
     uint64_t expected = refusal_of_values(key, variant, entry);
-    uint64_t refusal = yuzuknoll_emit(key->bytes, variant->bytes, entry->bytes, out->bytes, room, report->bytes);
+    uint64_t refusal = is_wide(key) ? yuzuknoll_emit_wide(key->bytes, variant->bytes, entry->bytes, out->bytes, room, report->bytes)
+                                    : yuzuknoll_emit(key->bytes, variant->bytes, entry->bytes, out->bytes, room, report->bytes);
     if (refusal == YUZUKNOLL_ACCEPTED) {
+        struct any_key any = is_wide(key) ? of_wide_key(key->bytes) : of_key(key->bytes);
         memcpy(result, report->bytes, sizeof *result);
-        check_emitted(key->bytes, variant->bytes, result, out->bytes, room);
+        check_emitted(&any, variant->bytes, result, out->bytes, room);
+        if (is_wide(key))
+            check_narrowed(key->bytes, variant, entry, result, out->bytes);
         expect(out, 0, out->bytes, result->length);
         expect(report, 0, result, sizeof *result);
     } else if (refusal == YUZUKNOLL_REFUSED_NO_ROOM && expected == YUZUKNOLL_ACCEPTED) {
@@ -284,10 +343,10 @@ static uint64_t check_emit(struct lent *key, struct lent *variant, struct lent *
     return refusal;
 }
 
-/* The same into a buffer of a length, of the text's length, and one byte shorter. */
-static void check_emits(const uint8_t *held, size_t room) {
+/* The same of a key of a length, into a buffer of a length, of the text's length, and one byte shorter. */
+static void check_emits(const uint8_t *held, size_t key_length, size_t room) {
     const uint8_t *variant_record = held + VARIANT_AT, *entry_record = held + ENTRY_AT;
-    struct lent *key = lend(KEY, held + KEY_AT + 1, sizeof(yuzuknoll_key), sizeof(yuzuknoll_key));
+    struct lent *key = lend(KEY, held + KEY_AT + 1, key_length, key_length);
     struct lent *variant = lend(VARIANT, variant_record + 1, sizeof(yuzuknoll_variant), sizeof(yuzuknoll_variant));
     struct lent *entry = lend(ENTRY, entry_record + 1, sizeof(yuzuknoll_entry), sizeof(yuzuknoll_entry));
     yuzuknoll_result first, again;
@@ -351,18 +410,33 @@ static int holds(const uint8_t *part, size_t length, unsigned kind) {
     return yuzuknoll_read(part, length, &record) == YUZUKNOLL_ACCEPTED && record.kind == kind;
 }
 
+/* The key that is held, if there is one. */
+static int held_key(const uint8_t *held, struct any_key *any) {
+    const uint8_t *part = held + KEY_AT;
+    if (holds(part, VARIANT_AT - KEY_AT, YUZUKNOLL_KIND_KEY))
+        *any = of_key((const yuzuknoll_key *)(part + 1));
+    else if (holds(part, VARIANT_AT - KEY_AT, YUZUKNOLL_KIND_WIDE_KEY))
+        *any = of_wide_key((const yuzuknoll_wide_key *)(part + 1));
+    else
+        return 0;
+    return 1;
+}
+
 /* What an emit record must answer and report; expects its text in the buffer. */
 static uint64_t emit_expected(const uint8_t *held, struct lent *out, yuzuknoll_result *result) {
     static uint8_t text[MOST];
     const uint8_t *variant = held + VARIANT_AT, *entry = held + ENTRY_AT;
-    if (!holds(held + KEY_AT, YUZUKNOLL_KEY_RECORD_LENGTH, YUZUKNOLL_KIND_KEY) || !holds(variant, YUZUKNOLL_VARIANT_RECORD_LENGTH, YUZUKNOLL_KIND_VARIANT) ||
+    struct any_key any;
+    if (!held_key(held, &any) || !holds(variant, YUZUKNOLL_VARIANT_RECORD_LENGTH, YUZUKNOLL_KIND_VARIANT) ||
         !holds(entry, YUZUKNOLL_ENTRY_RECORD_LENGTH, YUZUKNOLL_KIND_ENTRY))
         return YUZUKNOLL_REFUSED_EMIT_TOO_EARLY;
-    const yuzuknoll_key *key = (const yuzuknoll_key *)(held + KEY_AT + 1);
+    yuzuknoll_key narrow = without_arguments0(&any.key);
     const yuzuknoll_variant *body = (const yuzuknoll_variant *)(variant + 1);
-    uint64_t refusal = yuzuknoll_emit(key, body, (const yuzuknoll_entry *)(entry + 1), text, out->length, result);
+    const yuzuknoll_entry *name = (const yuzuknoll_entry *)(entry + 1);
+    uint64_t refusal = any.wide ? yuzuknoll_emit_wide(&any.key, body, name, text, out->length, result)
+                                : yuzuknoll_emit(&narrow, body, name, text, out->length, result);
     if (refusal == YUZUKNOLL_ACCEPTED) {
-        check_emitted(key, body, result, text, out->length);
+        check_emitted(&any, body, result, text, out->length);
         expect(out, 0, text, result->length);
     } else {
         must(refusal == YUZUKNOLL_REFUSED_NO_ROOM, "emit: good values refused");
@@ -372,23 +446,30 @@ static uint64_t emit_expected(const uint8_t *held, struct lent *out, yuzuknoll_r
 
 /* Expects in the held bytes the key that a good write makes of them. */
 static void expect_write(struct lent *held, const struct lent *bytes) {
-    uint8_t *part = (uint8_t *)held->bytes + KEY_AT;
-    uint8_t record[YUZUKNOLL_KEY_RECORD_LENGTH] = {YUZUKNOLL_KIND_KEY};
+    uint8_t kind;
     yuzuknoll_state_write write;
-    yuzuknoll_key key = defaults();
+    yuzuknoll_key narrow = defaults();
+    struct any_key any = of_key(&narrow);
     memcpy(&write, (uint8_t *)bytes->bytes + 1, sizeof write);
-    if (holds(part, YUZUKNOLL_KEY_RECORD_LENGTH, YUZUKNOLL_KIND_KEY))
-        memcpy(&key, part + 1, sizeof key);
-    set_state(&key, &write);
-    memcpy(record + 1, &key, sizeof key);
-    expect(held, KEY_AT, record, sizeof record);
+    held_key(held->bytes, &any);
+    set_state(&any, &write);
+    narrow = without_arguments0(&any.key);
+    kind = any.wide ? YUZUKNOLL_KIND_WIDE_KEY : YUZUKNOLL_KIND_KEY;
+    expect(held, KEY_AT, &kind, sizeof kind);
+    if (any.wide)
+        expect(held, KEY_AT + 1, &any.key, sizeof any.key);
+    else
+        expect(held, KEY_AT + 1, &narrow, sizeof narrow);
     note(14, write.stage << 5 | write.type);
 }
 
 /* yuzuknoll_apply after yuzuknoll_read said what it did of the record. What is held is left as the call leaves it. */
 static uint64_t check_apply(struct lent *held, struct lent *bytes, uint64_t read, const yuzuknoll_record *record, size_t room,
                             yuzuknoll_applied *applied) {
-    static const size_t places[] = {KEY_AT, VARIANT_AT, ENTRY_AT};
+    static const size_t places[] = {[YUZUKNOLL_KIND_KEY] = KEY_AT,
+                                    [YUZUKNOLL_KIND_VARIANT] = VARIANT_AT,
+                                    [YUZUKNOLL_KIND_ENTRY] = ENTRY_AT,
+                                    [YUZUKNOLL_KIND_WIDE_KEY] = KEY_AT};
     struct lent *out = lend_room(TEXT, room), *report = lend_room(REPORT, sizeof *applied);
     uint64_t expected = read;
     memset(applied, 0, sizeof *applied);
@@ -400,7 +481,7 @@ static uint64_t check_apply(struct lent *held, struct lent *bytes, uint64_t read
         else if (record->kind == YUZUKNOLL_KIND_STATE)
             expect_write(held, bytes);
         else
-            expect(held, places[record->kind - 1], bytes->bytes, record->taken);
+            expect(held, places[record->kind], bytes->bytes, record->taken);
     }
     if (expected == YUZUKNOLL_ACCEPTED)
         expect(report, 0, applied, sizeof *applied);
@@ -424,11 +505,12 @@ static void check_apply_again(struct lent *held, struct lent *bytes, const yuzuk
 }
 
 static void go_through(const uint8_t *data, size_t size) {
-    size_t room = (data[0] | (size_t)data[1] << 8) % (YUZUKNOLL_TEXT_LENGTH + 2), written = data[2] % 80;
+    size_t room = (data[0] | (size_t)data[1] << 8) % (YUZUKNOLL_TEXT_LENGTH + 2), written = data[2] % 90;
     const uint8_t *records = data + FRONT;
     size_t left = size - FRONT;
     check_pass(data + HEAD);
-    check_emits(data + HEAD, room);
+    check_emits(data + HEAD, sizeof(yuzuknoll_key), room);
+    check_emits(data + HEAD, sizeof(yuzuknoll_wide_key), room);
     struct lent *held = lend(HELD, data + HEAD, sizeof(yuzuknoll_held), sizeof(yuzuknoll_held));
     for (;;) {
         struct lent *bytes = lend(BYTES, records, left, left);

@@ -22,17 +22,25 @@ static uint8_t *put(uint8_t *at, unsigned byte) {
 
 static uint8_t *put_argument(uint8_t *at) { return put(at, below(8) | (below(3) == 0 ? below(16) << 4 : 0)); }
 
-static uint8_t *put_key(uint8_t *at) {
-    at = put(at, YUZUKNOLL_KIND_KEY);
+/* A key of either kind; of the wide ones every other has many ops of three operands. */
+static uint8_t *put_any_key(uint8_t *at, int wide) {
+    int three = wide && below(2) == 0;
+    at = put(at, wide ? YUZUKNOLL_KIND_WIDE_KEY : YUZUKNOLL_KIND_KEY);
     for (int stage = 0; stage < 8; stage++) {
         for (int role = 0; role < 2; role++) {
-            at = put(at, below(12) == 0 ? YUZUKNOLL_OP_DISABLE : 1 + below(26));
+            unsigned op = three && below(2) == 0 ? YUZUKNOLL_OP_MULTIPLYADD + below(2) : 1 + below(26);
+            at = put(at, below(12) == 0 ? YUZUKNOLL_OP_DISABLE : op);
             at = put_argument(put_argument(at));
         }
+        if (wide)
+            at = put_argument(put_argument(at));
         at = put(at, below(4));
     }
     return put(put(at, below(2)), below(2) == 0 ? 0 : below(256));
 }
+
+static uint8_t *put_key(uint8_t *at) { return put_any_key(at, 0); }
+static uint8_t *put_wide_key(uint8_t *at) { return put_any_key(at, 1); }
 
 static uint8_t *put_variant(uint8_t *at) {
     at = put(at, YUZUKNOLL_KIND_VARIANT);
@@ -64,34 +72,39 @@ static uint8_t *put_entry(uint8_t *at) {
 
 static uint8_t *put_write(uint8_t *at) {
     static const uint8_t types[] = {YUZUKNOLL_STATE_TEXTURE_BOUND, YUZUKNOLL_STATE_COLOUR_OP,  YUZUKNOLL_STATE_COLOUR_ARG1, YUZUKNOLL_STATE_COLOUR_ARG2,
-                                    YUZUKNOLL_STATE_ALPHA_OP,      YUZUKNOLL_STATE_ALPHA_ARG1, YUZUKNOLL_STATE_ALPHA_ARG2,  YUZUKNOLL_STATE_RESULT_ARG};
+                                    YUZUKNOLL_STATE_ALPHA_OP,      YUZUKNOLL_STATE_ALPHA_ARG1, YUZUKNOLL_STATE_ALPHA_ARG2,  YUZUKNOLL_STATE_COLOUR_ARG0,
+                                    YUZUKNOLL_STATE_ALPHA_ARG0,    YUZUKNOLL_STATE_RESULT_ARG};
     unsigned type = types[below(sizeof types)], value = below(27);
     if (type == YUZUKNOLL_STATE_TEXTURE_BOUND)
         value = below(2);
     if (type == YUZUKNOLL_STATE_RESULT_ARG)
         value = below(2) == 0 ? YUZUKNOLL_ARG_CURRENT : YUZUKNOLL_ARG_TEMP;
     at = put(put(at, YUZUKNOLL_KIND_STATE), below(40) == 0 ? 8 : below(8));
-    at = put(put(at, below(40) == 0 ? 26 : type), value);
+    at = put(put(at, below(40) == 0 ? 25 : type), value);
     return put(put(put(at, below(40) == 0), 0), 0);
 }
 
 /* Buffers that are large enough, or of any length. */
 static uint8_t *put_lengths(uint8_t *at) {
     unsigned room = below(4) == 0 ? below(4000) : YUZUKNOLL_TEXT_LENGTH;
-    return put(put(put(at, room & 255), room >> 8), below(80));
+    return put(put(put(at, room & 255), room >> 8), below(90));
 }
 
 static uint8_t *put_held(uint8_t *at) {
     memset(at, 0, YUZUKNOLL_HELD_LENGTH);
-    if (below(4) != 0)
-        put_entry(put_variant(put_key(at)));
+    if (below(4) != 0) {
+        put_any_key(at + YUZUKNOLL_HELD_KEY, below(2) == 0);
+        put_variant(at + YUZUKNOLL_HELD_VARIANT);
+        put_entry(at + YUZUKNOLL_HELD_ENTRY);
+    }
     return at + YUZUKNOLL_HELD_LENGTH;
 }
 
 static uint8_t *put_records(uint8_t *at) {
     for (unsigned left = below(10); left != 0; left--) {
-        switch (below(8)) {
+        switch (below(9)) {
         case 0: at = put_key(at); break;
+        case 8: at = put_wide_key(at); break;
         case 1: at = put_variant(at); break;
         case 2: at = put_entry(at); break;
         case 3:

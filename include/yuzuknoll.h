@@ -33,9 +33,9 @@
 extern "C" {
 #endif
 
-#define YUZUKNOLL_VERSION "0.8.0"
+#define YUZUKNOLL_VERSION "0.10.0"
 #define YUZUKNOLL_VERSION_MAJOR 0
-#define YUZUKNOLL_VERSION_MINOR 8
+#define YUZUKNOLL_VERSION_MINOR 10
 #define YUZUKNOLL_VERSION_PATCH 0
 
 /* ---- Refusals ---- */
@@ -58,10 +58,10 @@ extern "C" {
 
 /* ---- Keys ---- */
 
-/* The ops of a stage, with Direct3D's numbers (D3DTOP_...). In the formulas A is argument 1, B is argument 2, and t is
- * the texel of the stage. The results of ops 5 to 11, 15, 18 to 21 and 24 are clamped to the range from 0 to 1. Every
- * other number gives A, and an op warning. If a stage has no texture, and an op reads YUZUKNOLL_ARG_TEXTURE, the op gives
- * YUZUKNOLL_ARG_CURRENT. */
+/* The ops of a stage, with Direct3D's numbers (D3DTOP_...). In the formulas A is argument 1, B is argument 2, Z is
+ * argument 0, and t is the texel of the stage. The results of ops 5 to 11, 15, 18 to 21, 24 and 25 are clamped to the
+ * range from 0 to 1. Every other number gives A, and an op warning; so do 25 and 26 in a yuzuknoll_key, which has no
+ * argument 0. If a stage has no texture, and an op reads YUZUKNOLL_ARG_TEXTURE, the op gives YUZUKNOLL_ARG_CURRENT. */
 #define YUZUKNOLL_OP_DISABLE 1                    /* as colour op: the stages end here; as alpha op: alpha is kept */
 #define YUZUKNOLL_OP_SELECTARG1 2                 /* A */
 #define YUZUKNOLL_OP_SELECTARG2 3                 /* B */
@@ -85,6 +85,8 @@ extern "C" {
 #define YUZUKNOLL_OP_BUMPENVMAP 22                /* t displaces the next stage's lookup; as alpha op: alpha is kept */
 #define YUZUKNOLL_OP_BUMPENVMAPLUMINANCE 23       /* the same, and t scales the next stage's texel */
 #define YUZUKNOLL_OP_DOTPRODUCT3 24               /* 4 * dot(A - 0.5, B - 0.5); as colour op it sets alpha too */
+#define YUZUKNOLL_OP_MULTIPLYADD 25               /* Z + A * B; only in a yuzuknoll_wide_key */
+#define YUZUKNOLL_OP_LERP 26                      /* Z * A + (1 - Z) * B; only in a yuzuknoll_wide_key */
 
 /* The arguments of an op, with Direct3D's numbers (D3DTA_...). Add a modifier, or both, to one of the first seven. The
  * numbers 7 to 15 in the low four bits mean white and give a selector warning. The bits 0x40 and 0x80 have no effect and
@@ -118,6 +120,23 @@ typedef struct {
     uint8_t projected; /* Bit i divides the texture coordinate of stage i by its w, and makes it 0 where w is 0. */
 } yuzuknoll_key;
 
+/* One texture stage with a third operand, argument 0, for its colour op and one for its alpha op. All ops but
+ * YUZUKNOLL_OP_MULTIPLYADD and YUZUKNOLL_OP_LERP ignore it. */
+typedef struct {
+    uint8_t colour_op, colour_arg1, colour_arg2;
+    uint8_t alpha_op, alpha_arg1, alpha_arg2;
+    uint8_t colour_arg0, alpha_arg0;
+    uint8_t flags;
+} yuzuknoll_wide_stage;
+
+/* What the pixel stages compute, as a yuzuknoll_key says it, with YUZUKNOLL_OP_MULTIPLYADD and YUZUKNOLL_OP_LERP. Without
+ * these two a wide key gives what the key of the same stages without arguments 0 gives. */
+typedef struct {
+    yuzuknoll_wide_stage stages[8];
+    uint8_t specular;
+    uint8_t projected;
+} yuzuknoll_wide_key;
+
 /* ---- State writes ---- */
 
 /* The types of texture stage states, with Direct3D's numbers (D3DTSS_...) but for 0, and the values that each takes. */
@@ -128,6 +147,8 @@ typedef struct {
 #define YUZUKNOLL_STATE_ALPHA_OP 4
 #define YUZUKNOLL_STATE_ALPHA_ARG1 5
 #define YUZUKNOLL_STATE_ALPHA_ARG2 6
+#define YUZUKNOLL_STATE_COLOUR_ARG0 26  /* 0 to 255, as in a yuzuknoll_wide_stage; so is the one below */
+#define YUZUKNOLL_STATE_ALPHA_ARG0 27
 #define YUZUKNOLL_STATE_RESULT_ARG 28   /* where the result goes: YUZUKNOLL_ARG_CURRENT or YUZUKNOLL_ARG_TEMP */
 
 /* A write of one state of one stage. yuzuknoll_apply makes a key from the records of such writes. The value has four bytes,
@@ -138,7 +159,10 @@ typedef struct {
  *   the alpha op is YUZUKNOLL_OP_SELECTARG1 at stage 0, YUZUKNOLL_OP_DISABLE at the others
  *   argument 1 is YUZUKNOLL_ARG_TEXTURE and argument 2 YUZUKNOLL_ARG_CURRENT, in colour and alpha of every stage
  *   the result goes to YUZUKNOLL_ARG_CURRENT, and no texture is bound
- * Its specular and projected are 0, and no write changes them. */
+ * Its specular and projected are 0, and no write changes them.
+ *
+ * A write of YUZUKNOLL_STATE_COLOUR_ARG0 or YUZUKNOLL_STATE_ALPHA_ARG0, whatever its value, makes the key a wide key, with
+ * YUZUKNOLL_ARG_CURRENT as every argument 0 that is not written. Other writes leave a key what it is. */
 typedef struct {
     uint8_t stage;
     uint8_t type; /* One of YUZUKNOLL_STATE_... */
@@ -251,7 +275,7 @@ uint64_t yuzuknoll_entry_possible(const uint64_t state[3]);
 /* No text has more bytes than this, so a buffer of this length takes every text. */
 #define YUZUKNOLL_TEXT_LENGTH 16384
 
-/* What yuzuknoll_emit reports of a text. In the four masks bit i is for stage i, and the other bits are 0.
+/* What yuzuknoll_emit and yuzuknoll_emit_wide report of a text. In the four masks bit i is for stage i, and the other bits are 0.
  *
  * A warning is no refusal: there is a text. One bit is for the colour and the alpha of its stage:
  *
@@ -259,9 +283,10 @@ uint64_t yuzuknoll_entry_possible(const uint64_t state[3]);
  *         if (result.op_warnings >> stage & 1)
  *             printf("stage %d has an unsupported op\n", stage);
  *
- * The op and both arguments of a stage warn in colour and in alpha, even if their result is not used. They do not warn in
- * a stage that is not active or that displaces the next one's lookup, where an unbound texture makes the op give
- * YUZUKNOLL_ARG_CURRENT, nor in alpha that is kept or that the colour op sets. */
+ * The op and both arguments of a stage warn in colour and in alpha, even if their result is not used; argument 0 warns
+ * with them if the op takes it. They do not warn in a stage that is not active or that displaces the next one's lookup,
+ * where an unbound texture makes the op give YUZUKNOLL_ARG_CURRENT, nor in alpha that is kept or that the colour op
+ * sets. */
 typedef struct {
     uint64_t length;            /* The number of bytes of the text. */
     uint64_t mask;              /* Mask of the stages that are active and have a texture. */
@@ -287,16 +312,21 @@ typedef struct {
 uint64_t yuzuknoll_emit(const yuzuknoll_key *key, const yuzuknoll_variant *variant, const yuzuknoll_entry *entry,
                         uint8_t *text, size_t text_length, yuzuknoll_result *result);
 
+/* The same of a wide key. */
+uint64_t yuzuknoll_emit_wide(const yuzuknoll_wide_key *key, const yuzuknoll_variant *variant, const yuzuknoll_entry *entry,
+                             uint8_t *text, size_t text_length, yuzuknoll_result *result);
+
 /* ---- Records ---- */
 
 /* Keys, variants, entries and state writes can be stored and sent as records. A record is a byte for its kind, followed by
- * the bytes of a yuzuknoll_key, yuzuknoll_variant, yuzuknoll_entry or yuzuknoll_state_write. An emit record, which asks for
- * a text, is its kind alone. */
+ * the bytes of a yuzuknoll_key, yuzuknoll_variant, yuzuknoll_entry, yuzuknoll_state_write or yuzuknoll_wide_key. An emit
+ * record, which asks for a text, is its kind alone. */
 #define YUZUKNOLL_KIND_KEY 1
 #define YUZUKNOLL_KIND_VARIANT 2
 #define YUZUKNOLL_KIND_ENTRY 3
 #define YUZUKNOLL_KIND_EMIT 4
 #define YUZUKNOLL_KIND_STATE 5
+#define YUZUKNOLL_KIND_WIDE_KEY 6
 
 /* The number of bytes of a record, its kind included. */
 #define YUZUKNOLL_KEY_RECORD_LENGTH 59
@@ -304,6 +334,7 @@ uint64_t yuzuknoll_emit(const yuzuknoll_key *key, const yuzuknoll_variant *varia
 #define YUZUKNOLL_ENTRY_RECORD_LENGTH 34
 #define YUZUKNOLL_EMIT_RECORD_LENGTH 1
 #define YUZUKNOLL_STATE_RECORD_LENGTH 7
+#define YUZUKNOLL_WIDE_KEY_RECORD_LENGTH 75
 
 /* What yuzuknoll_read and yuzuknoll_write report. */
 typedef struct {
@@ -314,7 +345,8 @@ typedef struct {
 /* Checks the record at the front of bytes. The bytes after it do not matter.
  *
  * Refuses with 1 if there is no byte, with 2, with 1 if the record is cut short, or with the first cause of its kind: 3, 4
- * of a key, 5 of a variant, 6, 13 of an entry, 10, 11, 12 of a state write. On refusal nothing is modified. */
+ * of a key or a wide key, 5 of a variant, 6, 13 of an entry, 10, 11, 12 of a state write. On refusal nothing is
+ * modified. */
 uint64_t yuzuknoll_read(const uint8_t *bytes, size_t length, yuzuknoll_record *record);
 
 /* Checks the record at the front of bytes and copies it to the front of out. The bytes after it do not matter.
@@ -325,10 +357,14 @@ uint64_t yuzuknoll_write(const uint8_t *bytes, size_t length, uint8_t *out, size
 
 /* ---- Sessions ---- */
 
-/* The key, the variant and the entry that the records so far have set: their records, one after another. A struct of
- * zeros holds nothing. A part that yuzuknoll_read refuses, or that has another kind, counts as not held. A key that state
- * writes have set is held as the key record that gives the same key. */
-#define YUZUKNOLL_HELD_LENGTH 113
+/* The key, the variant and the entry that the records so far have set: their records, each at the front of its part. The
+ * key's part has room for a wide key; behind the record of a key it has 16 bytes that do not matter. A struct of zeros
+ * holds nothing. A part that yuzuknoll_read refuses, or that has another kind, counts as not held. A key that state writes
+ * have set is held as the key record that gives the same key. */
+#define YUZUKNOLL_HELD_LENGTH 129
+#define YUZUKNOLL_HELD_KEY 0      /* where the parts begin */
+#define YUZUKNOLL_HELD_VARIANT 75
+#define YUZUKNOLL_HELD_ENTRY 95
 typedef struct {
     uint8_t bytes[YUZUKNOLL_HELD_LENGTH];
 } yuzuknoll_held;
@@ -340,14 +376,14 @@ typedef struct {
     yuzuknoll_result result; /* What yuzuknoll_emit reports, if this is an emit record. All 0 if it is not. */
 } yuzuknoll_applied;
 
-/* Takes the record at the front of bytes. A key, a variant or an entry replaces the one that is held. A state write sets
- * one state of the held key and leaves the rest of it; if no key is held, it sets the state in the defaults, and that key
- * is held from then on. So after any list of writes the key has, for each stage and type, the last value written, or else
- * what it had before. An emit record writes the Metal function of what is held to the front of text, as yuzuknoll_emit
- * does. The bytes after the record do not matter.
+/* Takes the record at the front of bytes. A key of either kind, a variant or an entry replaces the one that is held. A
+ * state write sets one state of the held key and leaves the rest of it; if no key is held, it sets the state in the
+ * defaults, and that key is held from then on. So after any list of writes the key has, for each stage and type, the
+ * last value written, or else what it had before. An emit record writes the Metal function of what is held to the front
+ * of text, as yuzuknoll_emit or, of a wide key, yuzuknoll_emit_wide does. The bytes after the record do not matter.
  *
- * Refuses as yuzuknoll_read does, and an emit record also with 7 or 8, in this order. Does not modify the other parts of
- * held, nor the bytes after the text; unless it is an emit record, text is not modified. On refusal nothing is
+ * Refuses as yuzuknoll_read does, and an emit record also with 7 or 8, in this order. Does not modify the other parts
+ * of held, nor the bytes after the text; unless it is an emit record, text is not modified. On refusal nothing is
  * modified. */
 uint64_t yuzuknoll_apply(yuzuknoll_held *held, const uint8_t *bytes, size_t length, uint8_t *text, size_t text_length,
                          yuzuknoll_applied *applied);
@@ -363,6 +399,7 @@ uint64_t yuzuknoll_apply(yuzuknoll_held *held, const uint8_t *bytes, size_t leng
 #define YUZUKNOLL_SIZE(type, bytes) extern char yuzuknoll_size_of_##type[sizeof(type) == (bytes) ? 1 : -1]
 #endif
 YUZUKNOLL_SIZE(yuzuknoll_key, 58);
+YUZUKNOLL_SIZE(yuzuknoll_wide_key, 74);
 YUZUKNOLL_SIZE(yuzuknoll_state_write, 6);
 YUZUKNOLL_SIZE(yuzuknoll_variant, 19);
 YUZUKNOLL_SIZE(yuzuknoll_entry, 33);

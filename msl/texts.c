@@ -10,7 +10,7 @@
  *   texts smalls WORD     a file for each of the small texts, under its number in this folder
  *   texts attributes      looks at the attributes of one text on standard input
  *
- * Corpora: worked, everyday, selectors, kinds, flags, lookups, bump, mixed; and sweep, whose texts clang does not all accept, and where a text that
+ * Corpora: worked, everyday, selectors, kinds, flags, lookups, bump, mixed, three, wide; and sweep, whose texts clang does not all accept, and where a text that
  * was there before is told in a line `// same NAME EARLIER`.
  */
 #define _POSIX_C_SOURCE 200809L
@@ -36,6 +36,9 @@ struct input {
     yuzuknoll_key key;
     yuzuknoll_variant variant;
     yuzuknoll_entry entry;
+    /* With these the key is one of kind 6. */
+    bool wide;
+    uint8_t colour_arg0[STAGES], alpha_arg0[STAGES];
 };
 
 struct combiner {
@@ -63,6 +66,31 @@ static void set_stage(struct input *in, int stage, struct combiner colour, struc
         .alpha_arg2 = (uint8_t)alpha.second,
         .flags = (uint8_t)flags,
     };
+}
+
+static void set_arguments0(struct input *in, int stage, int colour, int alpha) {
+    in->wide = true;
+    in->colour_arg0[stage] = (uint8_t)colour;
+    in->alpha_arg0[stage] = (uint8_t)alpha;
+}
+
+static yuzuknoll_wide_key wide_key(const struct input *in) {
+    yuzuknoll_wide_key key = {.specular = in->key.specular, .projected = in->key.projected};
+    for (int i = 0; i < STAGES; i++) {
+        const yuzuknoll_stage *stage = &in->key.stages[i];
+        key.stages[i] = (yuzuknoll_wide_stage){
+            .colour_op = stage->colour_op,
+            .colour_arg1 = stage->colour_arg1,
+            .colour_arg2 = stage->colour_arg2,
+            .alpha_op = stage->alpha_op,
+            .alpha_arg1 = stage->alpha_arg1,
+            .alpha_arg2 = stage->alpha_arg2,
+            .colour_arg0 = in->colour_arg0[i],
+            .alpha_arg0 = in->alpha_arg0[i],
+            .flags = stage->flags,
+        };
+    }
+    return key;
 }
 
 static void set_specular(struct input *in, int on) { in->key.specular = (uint8_t)on; }
@@ -116,7 +144,9 @@ static uint8_t text[YUZUKNOLL_TEXT_LENGTH + 1];
 
 static size_t emitted(const struct input *in, const char *name) {
     yuzuknoll_result result;
-    uint64_t refusal = yuzuknoll_emit(&in->key, &in->variant, &in->entry, text, YUZUKNOLL_TEXT_LENGTH, &result);
+    yuzuknoll_wide_key wide = wide_key(in);
+    uint64_t refusal = in->wide ? yuzuknoll_emit_wide(&wide, &in->variant, &in->entry, text, YUZUKNOLL_TEXT_LENGTH, &result)
+                                : yuzuknoll_emit(&in->key, &in->variant, &in->entry, text, YUZUKNOLL_TEXT_LENGTH, &result);
     if (refusal != YUZUKNOLL_ACCEPTED) fail("the emitter refuses it", name);
     return result.length;
 }
@@ -198,7 +228,12 @@ static void write_record(int kind, const void *body, size_t length) {
 }
 
 static void write_records(const struct input *in) {
-    write_record(YUZUKNOLL_KIND_KEY, &in->key, sizeof in->key);
+    yuzuknoll_wide_key wide = wide_key(in);
+    if (in->wide) {
+        write_record(YUZUKNOLL_KIND_WIDE_KEY, &wide, sizeof wide);
+    } else {
+        write_record(YUZUKNOLL_KIND_KEY, &in->key, sizeof in->key);
+    }
     write_record(YUZUKNOLL_KIND_VARIANT, &in->variant, sizeof in->variant);
     write_record(YUZUKNOLL_KIND_ENTRY, &in->entry, sizeof in->entry);
     write_record(YUZUKNOLL_KIND_EMIT, "", 0);
@@ -538,23 +573,77 @@ static struct combiner mixed_combiner(void) {
 }
 
 /* Unusual keys and variants in which textures, TEMP, bump stages, constants and unknown codes meet, with stage bits that the rule does not refuse. */
+static struct input mixed_input(void) {
+    struct input in = nothing();
+    for (int stage = 0; stage < STAGES; stage++) {
+        struct combiner colour = mixed_combiner(), alpha = mixed_combiner();
+        set_stage(&in, stage, colour, alpha, (percent(60) ? YUZUKNOLL_STAGE_TEXTURED : 0) | (percent(25) ? YUZUKNOLL_STAGE_TO_TEMP : 0));
+        unsigned bits = (unsigned)random64() & ((1u << MASKS) - 1);
+        set_stage_bits(&in, stage, percent(50) || lookup_refused(bits) ? 0 : bits);
+    }
+    set_specular(&in, below(4) == 0);
+    set_projected(&in, percent(50) ? 0 : below(256));
+    set_alpha_function(&in, below(11));
+    set_fog(&in, percent(50) ? 0 : below(256), percent(50) ? 0 : below(5));
+    set_sample_mask(&in, below(256));
+    set_flags(&in, percent(40) ? 0 : below(ALL_FLAGS + 1));
+    return in;
+}
+
 static void mixed(void) {
     state = 2;
     for (int i = 0; i < 500; i++) {
-        struct input in = nothing();
-        for (int stage = 0; stage < STAGES; stage++) {
-            struct combiner colour = mixed_combiner(), alpha = mixed_combiner();
-            set_stage(&in, stage, colour, alpha, (percent(60) ? YUZUKNOLL_STAGE_TEXTURED : 0) | (percent(25) ? YUZUKNOLL_STAGE_TO_TEMP : 0));
-            unsigned bits = (unsigned)random64() & ((1u << MASKS) - 1);
-            set_stage_bits(&in, stage, percent(50) || lookup_refused(bits) ? 0 : bits);
-        }
-        set_specular(&in, below(4) == 0);
-        set_projected(&in, percent(50) ? 0 : below(256));
-        set_alpha_function(&in, below(11));
-        set_fog(&in, percent(50) ? 0 : below(256), percent(50) ? 0 : below(5));
-        set_sample_mask(&in, below(256));
-        set_flags(&in, percent(40) ? 0 : below(ALL_FLAGS + 1));
+        struct input in = mixed_input();
         put(&in, "mixed_%d", i);
+    }
+}
+
+/* ---- Keys of kind 6 ---- */
+
+/* One stage: the ops of three operands with every choice of three selectors, 7 for all above 6, in colour and in alpha, with a texture and without. */
+static void put_three(int op, const int argument[3], bool alpha, int flags) {
+    struct combiner c = {op, argument[1], argument[2]};
+    struct input in = nothing();
+    set_stage(&in, 0, alpha ? diffuse : c, alpha ? c : kept, flags);
+    set_arguments0(&in, 0, alpha ? 0 : argument[0], alpha ? argument[0] : 0);
+    put(&in, "three_%s_op%d_%d_%d_%d_flags%d", alpha ? "alpha" : "colour", op, argument[0], argument[1], argument[2], flags);
+}
+
+/* Eight stages, stage i with selector i as argument 2: every argument 0 (selectors 0 to 7 with every complement and alpha replicate) with every
+ * modifier of the two others, in colour and in alpha, with a texture. */
+static void put_three_kinds(int op, int zeroth, int modifier) {
+    struct input in = nothing();
+    for (int i = 0; i < STAGES; i++) {
+        struct combiner c = {op, modifier | (i + 1) % STAGES, modifier | i};
+        set_stage(&in, i, c, c, YUZUKNOLL_STAGE_TEXTURED);
+        set_arguments0(&in, i, zeroth, zeroth);
+    }
+    put(&in, "three_both_op%d_%02x_%xx", op, (unsigned)zeroth, (unsigned)modifier >> 4);
+}
+
+static void three(void) {
+    for (int op = OP(MULTIPLYADD); op <= OP(LERP); op++) {
+        for (int choice = 0; choice < 512; choice++)
+            for (int more = 0; more < 4; more++)
+                put_three(op, (const int[3]){choice >> 6, choice >> 3 & 7, choice & 7}, (more & 1) != 0,
+                          (more & 2) != 0 ? YUZUKNOLL_STAGE_TEXTURED : 0);
+        for (int zeroth = 0; zeroth < 32; zeroth++)
+            for (int modifier = 0; modifier < 4; modifier++) put_three_kinds(op, (zeroth & 7) | (zeroth >> 3) << 4, modifier << 4);
+    }
+}
+
+/* As mixed, of kind 6, with ops of three operands in the place of many others. */
+static void wide(void) {
+    state = 3;
+    for (int i = 0; i < 500; i++) {
+        struct input in = mixed_input();
+        for (int stage = 0; stage < STAGES; stage++) {
+            yuzuknoll_stage *s = &in.key.stages[stage];
+            if (s->colour_op < OP(BUMPENVMAP) && percent(40)) s->colour_op = (uint8_t)(OP(MULTIPLYADD) + below(2));
+            if (s->alpha_op < OP(BUMPENVMAP) && percent(40)) s->alpha_op = (uint8_t)(OP(MULTIPLYADD) + below(2));
+            set_arguments0(&in, stage, mixed_argument(), mixed_argument());
+        }
+        put(&in, "wide_%d", i);
     }
 }
 
@@ -680,7 +769,8 @@ static const struct {
     const char *name;
     void (*put_all)(void);
 } corpora[] = {{"worked", worked},   {"everyday", everyday}, {"selectors", selectors}, {"kinds", kinds}, {"flags", flags},
-               {"lookups", lookups}, {"bump", bump},         {"mixed", mixed},         {"sweep", sweep}};
+               {"lookups", lookups}, {"bump", bump},         {"mixed", mixed},         {"three", three}, {"wide", wide},
+               {"sweep", sweep}};
 
 static void put_corpus(const char *name) {
     size_t at = 0;

@@ -4,7 +4,8 @@ use std::ops::BitOr;
 
 use crate::Refusal;
 
-/// What a stage computes of its arguments A (argument 1) and B (argument 2), by Direct3D's number (`D3DTOP_..`).
+/// What a stage computes of its arguments A (argument 1) and B (argument 2), and in a [`WideKey`](crate::WideKey) of Z (argument 0), by Direct3D's number
+/// (`D3DTOP_..`).
 ///
 /// A number without a name here gives A, and a warning.
 #[derive(Clone, Copy, Debug, PartialEq, Eq, Hash)]
@@ -38,6 +39,10 @@ impl Op {
     /// The texel displaces the lookup of the next stage and scales what is read there.
     pub const BUMPENVMAPLUMINANCE: Self = Self(23);
     pub const DOTPRODUCT3: Self = Self(24);
+    /// Z + A * B, clamped to the range from 0 to 1. In a [`Key`](crate::Key), which has no Z, it gives A, and a warning.
+    pub const MULTIPLYADD: Self = Self(25);
+    /// Z * A + (1 - Z) * B. In a [`Key`](crate::Key), which has no Z, it gives A, and a warning.
+    pub const LERP: Self = Self(26);
 }
 
 /// An argument of an op, by Direct3D's number (`D3DTA_..`).

@@ -1,6 +1,6 @@
 //! The text of a key, a variant and an entry.
 
-use crate::{Entry, Key, Refusal, StageMask, Variant, Warnings, raw, values::ascii};
+use crate::{Entry, Key, Refusal, StageMask, Variant, Warnings, WideKey, raw, values::ascii};
 
 /// A text and what is known of it.
 #[derive(Clone, Copy, Debug, PartialEq, Eq)]
@@ -47,6 +47,27 @@ pub fn emit<'a>(
 ) -> Result<Emission<'a>, Refusal> {
     let mut emitted = raw::Emitted::default();
     Refusal::check(raw::emit(
+        key.as_bytes(),
+        variant.as_bytes(),
+        entry.as_bytes(),
+        buffer,
+        &mut emitted,
+    ))?;
+    Ok(Emission::of(&emitted, buffer))
+}
+
+/// Writes the Metal function of a wide key, a variant and an entry, as [`emit`] does of a key.
+///
+/// # Errors
+/// As [`emit`].
+pub fn emit_wide<'a>(
+    key: &WideKey,
+    variant: &Variant,
+    entry: &Entry,
+    buffer: &'a mut [u8],
+) -> Result<Emission<'a>, Refusal> {
+    let mut emitted = raw::Emitted::default();
+    Refusal::check(raw::emit_wide(
         key.as_bytes(),
         variant.as_bytes(),
         entry.as_bytes(),

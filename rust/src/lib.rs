@@ -17,6 +17,8 @@
 //! # Ok::<(), yuzuknoll::Refusal>(())
 //! ```
 //!
+//! A [`WideKey`] has a third operand for the ops [`Op::MULTIPLYADD`] and [`Op::LERP`], and [`emit_wide`] writes its text.
+//!
 //! Keys, variants and entries can be stored as [`Record`]s. A [`Session`] takes a sequence of records and writes a text for each emit record. A program
 //! that has a list of texture stage state writes in place of a key hands them to a session as [`StateWrite`]s.
 //!
@@ -42,9 +44,10 @@ mod session;
 mod states;
 mod values;
 mod warnings;
+mod wide;
 
 pub use codes::{Argument, Comparison, FogMode, Mask, Op, StageFlags, VariantFlags};
-pub use emission::{Emission, emit};
+pub use emission::{Emission, emit, emit_wide};
 pub use pass::EntryPass;
 pub use records::{Kind, Record};
 pub use refusal::Refusal;
@@ -52,6 +55,7 @@ pub use session::{Applied, Session};
 pub use states::{Register, State, StateWrite};
 pub use values::{Combiner, Entry, Key, STAGES, Stage, Variant};
 pub use warnings::{StageMask, Warning, Warnings};
+pub use wide::{HeldKey, WideKey, WideStage};
 
 /// No text has more bytes than this, so a buffer of this length takes every text.
 pub const TEXT_LENGTH: usize = 16_384;

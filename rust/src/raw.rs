@@ -3,10 +3,11 @@
 
 /// The bytes of a key, a variant, an entry and a state write, and of what a session holds.
 pub const KEY_LENGTH: usize = 58;
+pub const WIDE_KEY_LENGTH: usize = 74;
 pub const VARIANT_LENGTH: usize = 19;
 pub const ENTRY_LENGTH: usize = 33;
 pub const STATE_LENGTH: usize = 6;
-pub const HELD_LENGTH: usize = 113;
+pub const HELD_LENGTH: usize = 129;
 
 /// `yuzuknoll_result`: what is known of a text.
 #[derive(Clone, Copy, Debug, Default, PartialEq, Eq)]
@@ -56,6 +57,15 @@ mod archive {
             result: *mut Emitted,
         ) -> u64;
 
+        pub fn yuzuknoll_emit_wide(
+            key: *const u8,
+            variant: *const u8,
+            entry: *const u8,
+            text: *mut u8,
+            text_length: usize,
+            result: *mut Emitted,
+        ) -> u64;
+
         pub fn yuzuknoll_entry_start(state: *mut u64);
 
         pub fn yuzuknoll_entry_step(state: *mut u64, byte: u8);
@@ -96,6 +106,26 @@ pub fn emit(
 ) -> u64 {
     unsafe {
         archive::yuzuknoll_emit(
+            key.as_ptr(),
+            variant.as_ptr(),
+            entry.as_ptr(),
+            text.as_mut_ptr(),
+            text.len(),
+            result,
+        )
+    }
+}
+
+#[must_use]
+pub fn emit_wide(
+    key: &[u8; WIDE_KEY_LENGTH],
+    variant: &[u8; VARIANT_LENGTH],
+    entry: &[u8; ENTRY_LENGTH],
+    text: &mut [u8],
+    result: &mut Emitted,
+) -> u64 {
+    unsafe {
+        archive::yuzuknoll_emit_wide(
             key.as_ptr(),
             variant.as_ptr(),
             entry.as_ptr(),

@@ -1,6 +1,6 @@
 //! Keys, variants, entries and state writes as bytes that can be stored and sent.
 
-use crate::{Entry, Key, Refusal, StateWrite, Variant, raw};
+use crate::{Entry, Key, Refusal, StateWrite, Variant, WideKey, raw};
 
 /// The kind of a record.
 #[derive(Clone, Copy, Debug, PartialEq, Eq, Hash)]
@@ -10,6 +10,7 @@ pub enum Kind {
     Entry,
     Emit,
     State,
+    WideKey,
 }
 
 impl Kind {
@@ -22,6 +23,7 @@ impl Kind {
             3 => Some(Self::Entry),
             4 => Some(Self::Emit),
             5 => Some(Self::State),
+            6 => Some(Self::WideKey),
             _ => None,
         }
     }
@@ -35,6 +37,7 @@ impl Kind {
             Self::Entry => 3,
             Self::Emit => 4,
             Self::State => 5,
+            Self::WideKey => 6,
         }
     }
 
@@ -47,11 +50,12 @@ impl Kind {
             Self::Entry => 1 + raw::ENTRY_LENGTH,
             Self::Emit => 1,
             Self::State => 1 + raw::STATE_LENGTH,
+            Self::WideKey => 1 + raw::WIDE_KEY_LENGTH,
         }
     }
 }
 
-/// A key, a variant or an entry to be held, the wish for the text of what is held, or a write to the key that is held.
+/// A key of either kind, a variant or an entry to be held, the wish for the text of what is held, or a write to the key that is held.
 #[derive(Clone, Copy, Debug, PartialEq, Eq, Hash)]
 pub enum Record {
     Key(Key),
@@ -59,6 +63,7 @@ pub enum Record {
     Entry(Entry),
     Emit,
     State(StateWrite),
+    WideKey(WideKey),
 }
 
 impl Record {
@@ -70,6 +75,7 @@ impl Record {
             Self::Entry(_) => Kind::Entry,
             Self::Emit => Kind::Emit,
             Self::State(_) => Kind::State,
+            Self::WideKey(_) => Kind::WideKey,
         }
     }
 
@@ -108,6 +114,10 @@ impl Record {
                 let write = StateWrite::of_accepted(write).ok_or(Refusal::StateType)?;
                 (write.into(), rest)
             }
+            Kind::WideKey => {
+                let (key, rest) = body.split_first_chunk().ok_or(cut_short)?;
+                (WideKey::of_accepted(key).into(), rest)
+            }
         })
     }
 
@@ -134,6 +144,7 @@ impl Record {
                 write = state.to_bytes();
                 &write
             }
+            Self::WideKey(key) => key.as_bytes(),
         };
         [&[self.kind().number()], body].concat()
     }
@@ -160,5 +171,11 @@ impl From<Entry> for Record {
 impl From<StateWrite> for Record {
     fn from(write: StateWrite) -> Self {
         Self::State(write)
+    }
+}
+
+impl From<WideKey> for Record {
+    fn from(key: WideKey) -> Self {
+        Self::WideKey(key)
     }
 }

@@ -1,6 +1,6 @@
 //! Records one after another, and what they set.
 
-use crate::{Emission, Entry, Key, Kind, Record, Refusal, Variant, raw};
+use crate::{Emission, Entry, HeldKey, Kind, Record, Refusal, Variant, raw};
 
 /// The key, the variant and the entry that the records so far have set.
 ///
@@ -22,26 +22,31 @@ use crate::{Emission, Entry, Key, Kind, Record, Refusal, Variant, raw};
 /// ```
 ///
 /// A key may come as a list of state writes. Each sets one state of the held key, and leaves the rest of it. If no key is held, the first one begins from
-/// [`Key::BEFORE_WRITES`]:
+/// [`Key::BEFORE_WRITES`](crate::Key::BEFORE_WRITES):
 ///
 /// ```
-/// use yuzuknoll::{Applied, Op, Record, Session, State, StateWrite};
+/// use yuzuknoll::{Applied, HeldKey, Op, Record, Session, State, StateWrite};
 ///
 /// let mut session = Session::new();
 /// for state in [State::TextureBound(true), State::ColourOp(Op::ADD), State::ColourOp(Op::MODULATE2X)] {
 ///     let record = Record::State(StateWrite::new(0, state)?).to_vec();
 ///     assert_eq!(session.apply(&mut record.as_slice(), &mut [])?, Applied::Altered);
 /// }
-/// assert_eq!(session.key().map(|key| key.stages[0].colour.op), Some(Op::MODULATE2X));
+/// let key = session.key().and_then(HeldKey::narrow);
+/// assert_eq!(key.map(|key| key.stages[0].colour.op), Some(Op::MODULATE2X));
 /// # Ok::<(), yuzuknoll::Refusal>(())
 /// ```
+///
+/// A write of [`State::ColourArg0`](crate::State::ColourArg0) or [`State::AlphaArg0`](crate::State::AlphaArg0) makes the held key a
+/// [`WideKey`](crate::WideKey), with [`Argument::CURRENT`](crate::Argument::CURRENT) as every argument 0 that is not written. Only a key record turns it
+/// back.
 #[derive(Clone, Copy, Debug, PartialEq, Eq, Hash)]
 pub struct Session {
     held: [u8; raw::HELD_LENGTH],
 }
 
-/// Where the records of the variant and of the entry begin. The key's comes first.
-const VARIANT_AT: usize = Kind::Key.record_length();
+/// Where the records of the variant and of the entry begin. The key's comes first, in a part with room for either kind.
+const VARIANT_AT: usize = Kind::WideKey.record_length();
 const ENTRY_AT: usize = VARIANT_AT + Kind::Variant.record_length();
 
 /// What a record did.
@@ -68,16 +73,17 @@ impl Session {
         Self { held }
     }
 
-    /// The records of the key, the variant and the entry, one after another, with zeros for what is not held.
+    /// The records of the key, the variant and the entry, each at the front of its part. Zeros are for what was never held.
     #[must_use]
     pub const fn as_bytes(&self) -> &[u8; raw::HELD_LENGTH] {
         &self.held
     }
 
     #[must_use]
-    pub fn key(&self) -> Option<Key> {
+    pub fn key(&self) -> Option<HeldKey> {
         match self.record_at(0)? {
-            Record::Key(key) => Some(key),
+            Record::Key(key) => Some(key.into()),
+            Record::WideKey(key) => Some(key.into()),
             _ => None,
         }
     }

@@ -23,6 +23,10 @@ pub enum State {
     AlphaOp(Op),
     AlphaArg1(Argument),
     AlphaArg2(Argument),
+    /// The third operand of the colour op. This write and the next one make the key a [`WideKey`](crate::WideKey).
+    ColourArg0(Argument),
+    /// The third operand of the alpha op.
+    AlphaArg0(Argument),
     ResultArg(Register),
 }
 
@@ -38,6 +42,8 @@ impl State {
             Self::AlphaOp(_) => 4,
             Self::AlphaArg1(_) => 5,
             Self::AlphaArg2(_) => 6,
+            Self::ColourArg0(_) => 26,
+            Self::AlphaArg0(_) => 27,
             Self::ResultArg(_) => 28,
         }
     }
@@ -51,7 +57,9 @@ impl State {
             Self::ColourArg1(argument)
             | Self::ColourArg2(argument)
             | Self::AlphaArg1(argument)
-            | Self::AlphaArg2(argument) => argument.0.into(),
+            | Self::AlphaArg2(argument)
+            | Self::ColourArg0(argument)
+            | Self::AlphaArg0(argument) => argument.0.into(),
             Self::ResultArg(Register::Current) => Argument::CURRENT.0.into(),
             Self::ResultArg(Register::Temp) => Argument::TEMP.0.into(),
         }
@@ -67,6 +75,8 @@ impl State {
             4 => Self::AlphaOp(Op(value)),
             5 => Self::AlphaArg1(Argument(value)),
             6 => Self::AlphaArg2(Argument(value)),
+            26 => Self::ColourArg0(Argument(value)),
+            27 => Self::AlphaArg0(Argument(value)),
             28 if value == Argument::TEMP.0 => Self::ResultArg(Register::Temp),
             28 => Self::ResultArg(Register::Current),
             _ => return None,

@@ -3,7 +3,7 @@
 use std::{fmt, str::FromStr};
 
 use crate::{
-    Argument, Comparison, FogMode, Kind, Mask, Op, Refusal, StageFlags, VariantFlags, raw,
+    Argument, Comparison, FogMode, Kind, Mask, Op, Refusal, StageFlags, VariantFlags, WideKey, raw,
 };
 
 /// How many stages a key has.
@@ -282,4 +282,5 @@ as_bytes! {
     Key: raw::KEY_LENGTH;
     Variant: raw::VARIANT_LENGTH;
     Entry: raw::ENTRY_LENGTH;
+    WideKey: raw::WIDE_KEY_LENGTH;
 }

@@ -4,7 +4,8 @@ use std::{collections::BTreeMap, mem::offset_of};
 
 use yuzuknoll::{
     Argument, Combiner, Comparison, Entry, FogMode, Key, Kind, Op, Refusal, Register, STAGES,
-    Stage, StageFlags, State, StateWrite, TEXT_LENGTH, VERSION, Variant, VariantFlags, raw,
+    Stage, StageFlags, State, StateWrite, TEXT_LENGTH, VERSION, Variant, VariantFlags, WideKey,
+    WideStage, raw,
 };
 
 const HEADER: &str = include_str!("../../include/yuzuknoll.h");
@@ -65,6 +66,8 @@ fn named() -> BTreeMap<&'static str, u64> {
         ("OP_BUMPENVMAP", Op::BUMPENVMAP),
         ("OP_BUMPENVMAPLUMINANCE", Op::BUMPENVMAPLUMINANCE),
         ("OP_DOTPRODUCT3", Op::DOTPRODUCT3),
+        ("OP_MULTIPLYADD", Op::MULTIPLYADD),
+        ("OP_LERP", Op::LERP),
     ];
     let arguments = [
         ("ARG_DIFFUSE", Argument::DIFFUSE),
@@ -113,6 +116,8 @@ fn named() -> BTreeMap<&'static str, u64> {
         ("STATE_ALPHA_OP", State::AlphaOp(Op::ADD)),
         ("STATE_ALPHA_ARG1", State::AlphaArg1(Argument::TEMP)),
         ("STATE_ALPHA_ARG2", State::AlphaArg2(Argument::TEMP)),
+        ("STATE_COLOUR_ARG0", State::ColourArg0(Argument::TEMP)),
+        ("STATE_ALPHA_ARG0", State::AlphaArg0(Argument::TEMP)),
         ("STATE_RESULT_ARG", State::ResultArg(Register::Temp)),
     ];
     let refusals = [
@@ -136,6 +141,7 @@ fn named() -> BTreeMap<&'static str, u64> {
         ("KIND_ENTRY", "ENTRY_RECORD_LENGTH", Kind::Entry),
         ("KIND_EMIT", "EMIT_RECORD_LENGTH", Kind::Emit),
         ("KIND_STATE", "STATE_RECORD_LENGTH", Kind::State),
+        ("KIND_WIDE_KEY", "WIDE_KEY_RECORD_LENGTH", Kind::WideKey),
     ];
     let plain = [
         ("VERSION_MAJOR", version[0]),
@@ -157,6 +163,9 @@ fn named() -> BTreeMap<&'static str, u64> {
         ("MASK_CUBE", mask(offset_of!(Variant, cube))),
         ("TEXT_LENGTH", TEXT_LENGTH as u64),
         ("HELD_LENGTH", raw::HELD_LENGTH as u64),
+        ("HELD_KEY", 0),
+        ("HELD_VARIANT", 75),
+        ("HELD_ENTRY", 95),
     ];
     let mut all = BTreeMap::from(plain);
     all.extend(ops.map(|(name, op)| (name, op.0.into())));
@@ -175,8 +184,8 @@ fn named() -> BTreeMap<&'static str, u64> {
 #[test]
 fn every_number_is_named_here_and_there() {
     let mut defined = defined();
-    assert_eq!(defined.remove("VERSION"), Some("\"0.8.0\""));
-    assert_eq!(VERSION, "0.8.0");
+    assert_eq!(defined.remove("VERSION"), Some("\"0.10.0\""));
+    assert_eq!(VERSION, "0.10.0");
     // the guard of the header
     assert_eq!(defined.remove("H"), None);
     let numbers: BTreeMap<&str, u64> = defined
@@ -198,7 +207,7 @@ fn numbers_lead_back_to_their_names() {
     }
     for number in 0..=u8::MAX {
         let kind = Kind::from_number(number);
-        assert_eq!(kind.is_some(), (1..=5).contains(&number));
+        assert_eq!(kind.is_some(), (1..=6).contains(&number));
         assert!(kind.is_none_or(|kind| kind.number() == number));
     }
 }
@@ -260,7 +269,7 @@ macro_rules! fields {
 #[test]
 fn every_struct_has_the_same_layout() {
     let structs = structs();
-    let layouts: [Layout; 9] = [
+    let layouts: [Layout; 11] = [
         (
             "yuzuknoll_stage",
             size_of::<Stage>(),
@@ -271,6 +280,17 @@ fn every_struct_has_the_same_layout() {
             "yuzuknoll_key",
             size_of::<Key>(),
             fields!(Key: stages = "stages", specular = "specular", projected = "projected"),
+        ),
+        (
+            "yuzuknoll_wide_stage",
+            size_of::<WideStage>(),
+            fields!(WideStage: colour.op = "colour_op", colour.arg1 = "colour_arg1", colour.arg2 = "colour_arg2", alpha.op = "alpha_op",
+                alpha.arg1 = "alpha_arg1", alpha.arg2 = "alpha_arg2", colour_arg0 = "colour_arg0", alpha_arg0 = "alpha_arg0", flags = "flags"),
+        ),
+        (
+            "yuzuknoll_wide_key",
+            size_of::<WideKey>(),
+            fields!(WideKey: stages = "stages", specular = "specular", projected = "projected"),
         ),
         (
             "yuzuknoll_variant",
@@ -340,6 +360,7 @@ fn sizes_are_asserted() {
         asserted,
         [
             ("yuzuknoll_key", raw::KEY_LENGTH),
+            ("yuzuknoll_wide_key", raw::WIDE_KEY_LENGTH),
             ("yuzuknoll_state_write", raw::STATE_LENGTH),
             ("yuzuknoll_variant", raw::VARIANT_LENGTH),
             ("yuzuknoll_entry", raw::ENTRY_LENGTH),
@@ -354,10 +375,12 @@ fn sizes_are_asserted() {
     }
     assert_eq!(size_of::<Combiner>(), 3);
     assert_eq!(size_of::<Stage>() * STAGES + 2, size_of::<Key>());
+    assert_eq!(size_of::<WideStage>() * STAGES + 2, size_of::<WideKey>());
     for alignment in [
         align_of::<Key>(),
         align_of::<Variant>(),
         align_of::<Entry>(),
+        align_of::<WideKey>(),
     ] {
         assert_eq!(alignment, 1);
     }
@@ -381,6 +404,13 @@ fn bytes_are_the_fields_in_order() {
     assert_eq!(bytes[..7], [1, 0, 0, 1, 0, 0, 0]);
     assert_eq!(bytes[7..14], [10, 11, 12, 13, 14, 15, 2]);
     assert_eq!(bytes[56..], [1, 0x81]);
+    let mut wide = WideKey::from(key);
+    wide.stages[1].colour_arg0 = Argument(16);
+    wide.stages[1].alpha_arg0 = Argument(17);
+    let bytes = wide.as_bytes();
+    assert_eq!(bytes[..9], [1, 0, 0, 1, 0, 0, 1, 1, 0]);
+    assert_eq!(bytes[9..18], [10, 11, 12, 13, 14, 15, 16, 17, 2]);
+    assert_eq!(bytes[72..], [1, 0x81]);
     let entry = Entry::new("abc").unwrap();
     assert_eq!(entry.as_bytes()[..5], [3, b'a', b'b', b'c', 0]);
     let variant = Variant {

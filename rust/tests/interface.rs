@@ -1,19 +1,23 @@
 //! Each call at its edges: what it answers, which refusals it meets, and that a refusal leaves every lent byte and number as it was.
 
 use yuzuknoll::{
-    Applied, Argument, Combiner, Comparison, Entry, EntryPass, FogMode, Key, Kind, Mask, Op,
-    Record, Refusal, STAGES, Session, Stage, StageFlags, StageMask, State, StateWrite, TEXT_LENGTH,
-    Variant, VariantFlags, Warnings, emit, raw,
+    Applied, Argument, Combiner, Comparison, Entry, EntryPass, FogMode, HeldKey, Key, Kind, Mask,
+    Op, Record, Refusal, STAGES, Session, Stage, StageFlags, StageMask, State, StateWrite,
+    TEXT_LENGTH, Variant, VariantFlags, Warnings, WideKey, WideStage, emit, emit_wide, raw,
 };
 
-/// Where the parts begin of what a session holds.
+/// Where the parts begin of what a session holds. The key's has room for either kind.
 const KEY_AT: usize = 0;
-const VARIANT_AT: usize = KEY_AT + Kind::Key.record_length();
+const VARIANT_AT: usize = KEY_AT + Kind::WideKey.record_length();
 const ENTRY_AT: usize = VARIANT_AT + Kind::Variant.record_length();
 
 /// Where the flags of a stage and the specular byte stand in a key.
 const FLAGS_AT: usize = size_of::<Stage>() - 1;
 const SPECULAR_AT: usize = size_of::<[Stage; STAGES]>();
+
+/// The same in a wide key.
+const WIDE_FLAGS_AT: usize = size_of::<WideStage>() - 1;
+const WIDE_SPECULAR_AT: usize = size_of::<[WideStage; STAGES]>();
 
 /// MODULATE of texture and diffuse.
 fn key() -> Key {
@@ -37,13 +41,14 @@ fn write() -> StateWrite {
     StateWrite::new(0, State::ColourOp(Op::MODULATE)).unwrap()
 }
 
-fn records() -> [Record; 5] {
+fn records() -> [Record; 6] {
     [
         Record::Key(key()),
         Record::Variant(variant()),
         Record::Entry(entry()),
         Record::Emit,
         Record::State(write()),
+        Record::WideKey(key().into()),
     ]
 }
 
@@ -69,6 +74,27 @@ fn bad_keys() -> Vec<(Refusal, [u8; raw::KEY_LENGTH])> {
         }
     }
     bad.extend((2..=255).map(|byte| (Refusal::SpecularAdd, changed(&good, SPECULAR_AT, byte))));
+    bad
+}
+
+/// The same of a wide key.
+fn bad_wide_keys() -> Vec<(Refusal, [u8; raw::WIDE_KEY_LENGTH])> {
+    let good = *WideKey::from(key()).as_bytes();
+    let mut bad = Vec::new();
+    for stage in 0..STAGES {
+        for bit in 2..8 {
+            let flags = changed(
+                &good,
+                size_of::<WideStage>() * stage + WIDE_FLAGS_AT,
+                1 << bit,
+            );
+            bad.push((Refusal::StageFlags, flags));
+            bad.push((Refusal::StageFlags, changed(&flags, WIDE_SPECULAR_AT, 2)));
+        }
+    }
+    bad.extend(
+        (2..=255).map(|byte| (Refusal::SpecularAdd, changed(&good, WIDE_SPECULAR_AT, byte))),
+    );
     bad
 }
 
@@ -112,11 +138,11 @@ fn bad_writes() -> Vec<(Refusal, [u8; raw::STATE_LENGTH])> {
         bad.push((Refusal::StageNumber, [stage, 1, 4, 0, 0, 0]));
         bad.push((Refusal::StageNumber, [stage, 7, 4, 0, 0, 1]));
     }
-    for number in (0..=255).filter(|number| !matches!(number, 0..=6 | 28)) {
+    for number in (0..=255).filter(|number| !matches!(number, 0..=6 | 26..=28)) {
         bad.push((Refusal::StateType, [7, number, 1, 0, 0, 0]));
         bad.push((Refusal::StateType, [7, number, 0, 0, 0, 128]));
     }
-    for number in [0, 1, 2, 3, 4, 5, 6, 28] {
+    for number in [0, 1, 2, 3, 4, 5, 6, 26, 27, 28] {
         for at in 3..raw::STATE_LENGTH {
             let good = [0, number, 1, 0, 0, 0];
             bad.extend((0..8).map(|bit| (Refusal::StateValue, changed(&good, at, 1 << bit))));
@@ -158,6 +184,8 @@ fn bad_records() -> Vec<(Refusal, Vec<u8>)> {
     }
     let keys = bad_keys().into_iter();
     bad.extend(keys.map(|(refusal, body)| (refusal, record(Kind::Key, &body))));
+    let keys = bad_wide_keys().into_iter();
+    bad.extend(keys.map(|(refusal, body)| (refusal, record(Kind::WideKey, &body))));
     let variants = bad_variants().into_iter();
     bad.extend(variants.map(|(refusal, body)| (refusal, record(Kind::Variant, &body))));
     let entries = bad_entries().into_iter();
@@ -266,6 +294,54 @@ fn refusals_of_emit_come_in_order_and_leave_all() {
     let number = raw::emit(&key, &variant, &entry, &mut text, &mut result);
     assert_eq!(number, Refusal::NoRoom.number());
     assert_eq!((text, result), ([0xaa; 700], EMITTED));
+}
+
+#[test]
+fn refusals_of_emit_wide_come_in_order_and_leave_all() {
+    let (wide, variant, entry) = (
+        *WideKey::from(key()).as_bytes(),
+        *variant().as_bytes(),
+        *entry().as_bytes(),
+    );
+    let bad_variant = bad_variants()[0].1;
+    let bad_entry = bad_entries()[0].1;
+    let mut calls = Vec::new();
+    for (refusal, bad) in bad_wide_keys() {
+        calls.push((refusal, bad, variant, entry));
+        calls.push((refusal, bad, bad_variant, bad_entry));
+    }
+    for (refusal, bad) in bad_variants() {
+        calls.push((refusal, wide, bad, bad_entry));
+    }
+    for (refusal, bad) in bad_entries() {
+        calls.push((refusal, wide, variant, bad));
+    }
+    calls.push((Refusal::NoRoom, wide, variant, entry));
+    for (refusal, wide, variant, entry) in calls {
+        let (mut text, mut result) = ([0xaa; 700], EMITTED);
+        let number = raw::emit_wide(&wide, &variant, &entry, &mut text, &mut result);
+        assert_eq!(number, refusal.number());
+        assert_eq!((text, result), ([0xaa; 700], EMITTED));
+    }
+}
+
+/// Without ops of three operands a wide key gives what its key gives, into the same buffers.
+#[test]
+fn a_widened_key_gives_the_same() {
+    let mut direct = [0xaa; TEXT_LENGTH];
+    let expected = emit(&key(), &variant(), &entry(), &mut direct).unwrap();
+    let length = expected.text.len();
+    let wide = WideKey::from(key());
+    let mut buffer = [0xaa; TEXT_LENGTH];
+    let emission = emit_wide(&wide, &variant(), &entry(), &mut buffer);
+    assert_eq!(emission, Ok(expected));
+    assert_eq!(buffer, direct);
+    let mut exact = vec![0xaa; length];
+    assert!(emit_wide(&wide, &variant(), &entry(), &mut exact).is_ok());
+    let mut short = vec![0xaa; length - 1];
+    let refused = emit_wide(&wide, &variant(), &entry(), &mut short);
+    assert_eq!(refused, Err(Refusal::NoRoom));
+    assert!(short.iter().all(|&b| b == 0xaa));
 }
 
 #[test]
@@ -393,7 +469,7 @@ fn flags_are_known_bits() {
 }
 
 /// Values with every byte different from its neighbours, so that a swapped field shows.
-fn unlike() -> [Record; 5] {
+fn unlike() -> [Record; 6] {
     let combiner = |n| Combiner::new(Op(n), Argument(n + 1), Argument(n + 2));
     let mut key = Key {
         specular: true,
@@ -423,12 +499,18 @@ fn unlike() -> [Record; 5] {
     };
     let entry = Entry::new("abcdefghijklmnopqrstuvwxyz_01234").unwrap();
     let write = StateWrite::new(7, State::AlphaArg2(Argument(0xa6))).unwrap();
+    let mut wide = WideKey::from(key);
+    for (stage, n) in wide.stages.iter_mut().zip(0..) {
+        stage.colour_arg0 = Argument(10 * n + 6);
+        stage.alpha_arg0 = Argument(10 * n + 7);
+    }
     [
         key.into(),
         variant.into(),
         entry.into(),
         Record::Emit,
         write.into(),
+        wide.into(),
     ]
 }
 
@@ -470,7 +552,7 @@ fn refusals_of_read_and_write_leave_all() {
         assert_eq!(rest, bytes);
         let mut report = RECORD;
         assert_eq!(raw::read(&bytes, &mut report), refusal.number());
-        for room in [0, 80] {
+        for room in [0, 90] {
             let mut out = vec![0xaa; room];
             let number = raw::write(&bytes, &mut out, &mut report);
             assert_eq!(number, refusal.number());
@@ -509,11 +591,23 @@ fn holds_what_is_applied() {
     else {
         panic!("in this order");
     };
-    assert_eq!(session.key(), Some(key));
+    assert_eq!(session.key(), Some(HeldKey::Key(key)));
     assert_eq!(session.variant(), Some(variant));
     assert_eq!(session.entry(), Some(entry));
-    let all = unlike().map(|record| record.to_vec()).concat();
-    assert_eq!(session.as_bytes()[..], all[..raw::HELD_LENGTH]);
+    let [key, variant, entry, .., wide] = unlike().map(|record| record.to_vec());
+    let room = vec![0; wide.len() - key.len()];
+    let held = [key, room, variant.clone(), entry.clone()].concat();
+    assert_eq!(session.as_bytes()[..], held);
+    let applied = session.apply(&mut wide.as_slice(), &mut []);
+    assert_eq!(applied, Ok(Applied::Replaced));
+    assert_eq!(
+        session.as_bytes()[..],
+        [wide.clone(), variant, entry].concat()
+    );
+    assert_eq!(
+        session.key().map(Record::from).map(|r| r.to_vec()),
+        Some(wide)
+    );
     assert_eq!(Session::from_bytes(*session.as_bytes()), session);
 }
 

@@ -7,6 +7,10 @@ neither true v e = absurd (true≢false (sym e))
 neither false true e = absurd (true≢false (sym e))
 neither false false e = (refl, refl)
 
+pub none-of-three : (u v w : Bool) → not (u || (v || w)) ≡ true → (u ≡ false) × (v ≡ false) × (w ≡ false)
+none-of-three true v w e = absurd (true≢false (sym e))
+none-of-three false v w e = let n = neither v w e in (refl, n .0, n .1)
+
 pub and-false : (x : Bool) → (x && false) ≡ false
 and-false true = refl
 and-false false = refl

@@ -1,5 +1,6 @@
 pub mod Active
 mod Guards
+pub mod Narrowing
 mod PlainStages
 pub mod Reports
 mod Walking

@@ -5,9 +5,11 @@ use mathlib.Core.Path.{_≡_, refl, sym}
 use native.Mathlib.Omega.{arith}
 use borrow.Author.Tests.{ne-eqb, lt-leb, ltb-true, leb-true, eqb-true, not-true}
 use lib.Dec.{eqb, leb, ltb}
-use Rattle.combiners.specs.Codes.{selector, constant, temp}
-use Rattle.cascade.specs.Keys.{reads, readsConstant, blendsByFactor, namesFactor}
+use Rattle.combiners.specs.Codes.{selector, factor, constant, temp}
+use Rattle.combiners.specs.Warnings.{unknownSelector, unknownModifier}
+use Rattle.cascade.specs.Keys.{selects, some, reads, readsConstant, blendsByFactor, namesFactor}
 use Rattle.cascade.specs.Reading.{keeps, readsTemp}
+use Rattle.cascade.specs.Warnings.{appliesColour, appliesAlpha}
 use Rattle.cascade.specs.Walks.{warns}
 use Rattle.cascade.specs.Plain.{PlainArgument, PlainCombiner, PlainStage}
 use Rattle.values.specs.declared.Combiner.{Combiner}
@@ -33,23 +35,31 @@ plain-argument a h =
       modifier = lt-leb 64 a (omega arith);
     }
 
+-- a fact of no plain argument is one of no argument of a plain combiner
+none : (f : ℕ → Bool) → ((a : ℕ) → PlainArgument a → f a ≡ false) → (c : Combiner) → PlainCombiner c → some f c ≡ false
+none f h c p = rw (h (c .arg1) (p .first), h (c .arg2) (p .second), p .third)
+
 module _ (c : Combiner) (p : PlainCombiner c) where
   no-constant : reads constant c ≡ false
   unfolding reads
-  no-constant = rw (p .first .constant, p .second .constant, and-false, and-false)
+  no-constant = rw (p .first .constant, p .second .constant, p .third, and-false, and-false)
 
   no-temp : (t : Bool) → keeps temp t c ≡ false
   unfolding keeps
-  no-temp t = rw (p .first .temp, p .second .temp, and-false, and-false)
+  no-temp t = rw (p .first .temp, p .second .temp, p .third, and-false, and-false)
 
 module _ (s : Stage) (p : PlainCombiner (s .colour)) (q : PlainCombiner (s .alpha)) where
   names : namesFactor s ≡ blendsByFactor s
   unfolding namesFactor
-  names = rw (p .first .factor, p .second .factor, q .first .factor, q .second .factor, and-false, or-false)
+  names = rw (none (selects factor) (λ a x. x .factor) (s .colour) p, none (selects factor) (λ a x. x .factor) (s .alpha) q, and-false, or-false)
     where
       or-false : (x : Bool) → (x || false) ≡ x
       or-false true = refl
       or-false false = refl
+
+  warned : (f : ℕ → Bool) → ((a : ℕ) → PlainArgument a → f a ≡ false)
+      → ((appliesColour s && some f (s .colour)) || (appliesAlpha s && some f (s .alpha))) ≡ false
+  warned f h = rw (none f h (s .colour) p, none f h (s .alpha) q, and-false, and-false)
 
   pub plain-stage : PlainStage s
   unfolding readsConstant readsTemp warns
@@ -58,8 +68,8 @@ module _ (s : Stage) (p : PlainCombiner (s .colour)) (q : PlainCombiner (s .alph
         factor = names;
         temp = rw (no-temp (s .colour) p, no-temp (s .alpha) q, and-false, and-false, and-false);
         constant = rw (no-constant (s .colour) p, no-constant (s .alpha) q, and-false, and-false, and-false);
-        selector = rw (p .first .selector, p .second .selector, q .first .selector, q .second .selector, and-false, and-false);
-        modifier = rw (p .first .modifier, p .second .modifier, q .first .modifier, q .second .modifier, and-false, and-false);
+        selector = warned unknownSelector (λ a x. x .selector);
+        modifier = warned unknownModifier (λ a x. x .modifier);
       }
 
 -- the row count of the last constant, where this stage reads none

@@ -8,7 +8,8 @@ use borrow.Author.Tests.{ne-eqb, eq-eqb, eqb-true, eqb-false}
 use lib.Dec.{eqb}
 use lib.ListN.{length}
 use Rattle.combiners.specs.Warnings.{Cause, opCause, selectorCause, modifierCause, causeNumber, Report, unknownSelector, unknownModifier, reportIf, appliedReports, reported, maskFrom}
-use Rattle.cascade.specs.Keys.{stagesWhere}
+use Rattle.combiners.specs.Combiners.{threeOperands}
+use Rattle.cascade.specs.Keys.{stagesWhere, third, some}
 use Rattle.cascade.specs.Warnings.{appliesColour, appliesAlpha, combinerReports, stageReports, reportsFrom, warnedStages}
 use Rattle.cascade.specs.Walks.{gives, warns}
 use Rattle.values.specs.declared.Combiner.{Combiner}
@@ -35,6 +36,15 @@ and-or true true false = refl
 and-or true false e = or-false e
 and-or false b e = refl
 
+in-some : (f : ℕ → Bool) (k : Combiner) (e : Bool)
+    → ((f (k .arg1) && e) || ((f (k .arg2) && e) || (threeOperands (k .op) && (f (k .arg0) && e)))) ≡ (some f k && e)
+in-some f k e =
+    rw (and-assoc (threeOperands (k .op)) (f (k .arg0)) e, and-or (f (k .arg2)) (third f k) e) (and-or (f (k .arg1)) (f (k .arg2) || third f k) e)
+  where
+    and-assoc : (a b c : Bool) → (a && (b && c)) ≡ ((a && b) && c)
+    and-assoc true b c = refl
+    and-assoc false b c = refl
+
 alone : (same e : Bool) → ((same && e) || false) ≡ ((same && true) && e)
 alone true e = or-false e
 alone false e = refl
@@ -55,11 +65,16 @@ unfolding reported
 one c d j i true = alone (eqb (causeNumber c) (causeNumber d)) (eqb j i)
 one c d j i false = none (eqb (causeNumber c) (causeNumber d)) (eqb j i)
 
-applied : (c : Cause) (j i : ℕ) (k : Combiner) → reported c j (appliedReports i (k .op) (k .arg1) (k .arg2)) ≡ (gives c k && eqb j i)
+if-three : (c : Cause) (j : ℕ) (b : Bool) (x y : List Report) → reported c j (cond b (x ++ y) []) ≡ (b && (reported c j x || reported c j y))
+unfolding reported
+if-three c j true x y = joined c j x y
+if-three c j false x y = refl
+
+applied : (c : Cause) (j i : ℕ) (k : Combiner) → reported c j (appliedReports i (k .op) (k .arg1) (k .arg2) (k .arg0)) ≡ (gives c k && eqb j i)
 unfolding appliedReports
-applied opCause j i k = simp (joined, one, or-false)
-applied selectorCause j i k = simp (joined, one, or-false) (and-or (unknownSelector (k .arg1)) (unknownSelector (k .arg2)) (eqb j i))
-applied modifierCause j i k = simp (joined, one, or-false) (and-or (unknownModifier (k .arg1)) (unknownModifier (k .arg2)) (eqb j i))
+applied opCause j i k = simp (joined, if-three, one, or-false, and-false)
+applied selectorCause j i k = simp (joined, if-three, one, or-false) (in-some unknownSelector k (eqb j i))
+applied modifierCause j i k = simp (joined, if-three, one) (in-some unknownModifier k (eqb j i))
 
 where-applied : (c : Cause) (j i : ℕ) (k : Combiner) (b : Bool) → reported c j (combinerReports b i k) ≡ ((b && gives c k) && eqb j i)
 unfolding reported

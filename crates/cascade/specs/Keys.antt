@@ -4,6 +4,7 @@ use mathlib.Core.Bool.{Bool, false, not, _&&_, _||_, cond}
 use mathlib.Core.List.{List, [], _∷_}
 use lib.Dec.{eqb}
 use Rattle.combiners.specs.Codes.{bit, selector, disable, selectArg1, selectArg2, blendFactorAlpha, bumpEnvMap, bumpEnvMapLuminance, dotProduct3, texture, factor, constant}
+use Rattle.combiners.specs.Combiners.{threeOperands}
 use Rattle.values.specs.declared.Combiner.{Combiner}
 use Rattle.values.specs.declared.Stage.{Stage}
 
@@ -35,13 +36,17 @@ readsSecond o = not (eqb o disable || eqb o selectArg1)
 abbrev pub selects : ℕ → ℕ → Bool
 selects k a = eqb (selector a) k
 
+-- A fact of the third operand, argument 0. 02: "All three arguments .. count for fallback, liveness and rows; other ops ignore Z".
+abbrev pub third : (ℕ → Bool) → Combiner → Bool
+third f c = threeOperands (c .op) && f (c .arg0)
+
 -- a fact of one of the combiner's arguments
-abbrev pub either : (ℕ → Bool) → Combiner → Bool
-either f c = f (c .arg1) || f (c .arg2)
+abbrev pub some : (ℕ → Bool) → Combiner → Bool
+some f c = f (c .arg1) || (f (c .arg2) || third f c)
 
 -- the op reads an argument that selects k
 unfoldable pub reads : ℕ → Combiner → Bool
-reads k c = (readsFirst (c .op) && selects k (c .arg1)) || (readsSecond (c .op) && selects k (c .arg2))
+reads k c = (readsFirst (c .op) && selects k (c .arg1)) || ((readsSecond (c .op) && selects k (c .arg2)) || third (selects k) c)
 
 -- 01: "Unbound fallback: no texture, and the op reads an argument with selector 2."
 unfoldable pub fallsBack : Bool → Combiner → Bool
@@ -73,13 +78,14 @@ readsConstant s =
     (not (fallsBack (textured s) (s .colour)) && reads constant (s .colour))
     || (not (alphaFromColour s) && (not (fallsBack (textured s) (s .alpha)) && reads constant (s .alpha)))
 
--- 01: "either op is 14, or a colour argument, or with alpha op not 1 an alpha argument, selects 3"
+-- 01: "either op is 14, or a colour argument, or with alpha op not 1 an alpha argument, selects 3". 02: other ops ignore argument 0, "and so does the
+-- row count there".
 abbrev pub blendsByFactor : Stage → Bool
 blendsByFactor s = eqb (s .colour .op) blendFactorAlpha || eqb (s .alpha .op) blendFactorAlpha
 
 unfoldable pub namesFactor : Stage → Bool
 namesFactor s =
-    blendsByFactor s || (either (selects factor) (s .colour) || (not (eqb (s .alpha .op) disable) && either (selects factor) (s .alpha)))
+    blendsByFactor s || (some (selects factor) (s .colour) || (not (eqb (s .alpha .op) disable) && some (selects factor) (s .alpha)))
 
 -- the stage number plus 2 of the last stage that reads a constant, 0 if none does; i is the first stage's number
 unfoldable pub lastConstant : ℕ → List Stage → ℕ

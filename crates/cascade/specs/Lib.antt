@@ -1,4 +1,5 @@
 pub mod Keys
+pub mod Effective
 pub mod Stages
 pub mod Reading
 pub mod Warnings

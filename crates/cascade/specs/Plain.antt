@@ -3,6 +3,7 @@ use Prim.Native.Nat.{ℕ}
 use mathlib.Core.Bool.{false}
 use mathlib.Core.Path.{_≡_}
 use Rattle.combiners.specs.Codes as codes
+use Rattle.combiners.specs.Combiners.{threeOperands}
 use Rattle.cascade.specs.Keys.{selects, readsConstant, blendsByFactor, namesFactor}
 use Rattle.cascade.specs.Reading.{readsTemp}
 use Rattle.combiners.specs.Warnings.{selectorCause, modifierCause, unknownSelector, unknownModifier}
@@ -20,6 +21,7 @@ pub record PlainArgument (a : ℕ) : Type 0 where
 pub record PlainCombiner (c : Combiner) : Type 0 where
   pub first : PlainArgument (c .arg1)
   pub second : PlainArgument (c .arg2)
+  pub third : threeOperands (c .op) ≡ false
 
 pub record PlainStage (s : Stage) : Type 0 where
   pub factor : namesFactor s ≡ blendsByFactor s

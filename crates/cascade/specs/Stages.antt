@@ -9,7 +9,7 @@ use Rattle.text.specs.Text.{Text, lit, pick}
 use Rattle.text.specs.Format.{format, _≔_}
 use Rattle.combiners.specs.Codes.{disable}
 use Rattle.combiners.specs.Arguments.{argOf}
-use Rattle.combiners.specs.Combiners.{opOf, expressionText}
+use Rattle.combiners.specs.Combiners.{opOf, threeOperands, expressionText}
 use Rattle.combiners.specs.declared.Arg.{Arg}
 use Rattle.combiners.specs.declared.Source.the-variants.{Current}
 use Rattle.combiners.specs.declared.Op.the-variants.{SelectArg1}
@@ -27,10 +27,14 @@ currentArg = record { source = Current; replicate = false; complement = false }
 
 -- 01: "The expression is then `current`": SELECTARG1 of CURRENT
 abbrev pub fallback : Expression
-fallback = record { op = SelectArg1; arg1 = currentArg; arg2 = currentArg }
+fallback = record { op = SelectArg1; arg1 = currentArg; arg2 = currentArg; arg0 = currentArg }
+
+-- argument 0, which is resolved where the op is 25 or 26; no other op has it in its text
+abbrev pub arg0Of : Bool → Combiner → Arg
+arg0Of tex c = cond (threeOperands (c .op)) (argOf tex (c .arg0)) currentArg
 
 abbrev pub combined : Bool → Combiner → Expression
-combined tex c = record { op = opOf (c .op); arg1 = argOf tex (c .arg1); arg2 = argOf tex (c .arg2) }
+combined tex c = record { op = opOf (c .op); arg1 = argOf tex (c .arg1); arg2 = argOf tex (c .arg2); arg0 = arg0Of tex c }
 
 unfoldable pub expressionOf : Bool → Combiner → Expression
 expressionOf tex c = cond (fallsBack tex c) fallback (combined tex c)

@@ -4,7 +4,7 @@ use mathlib.Core.Bool.{Bool, not, _&&_, _||_, cond}
 use mathlib.Core.List.{List}
 use lib.Dec.{eqb}
 use Rattle.combiners.specs.Warnings.{Cause, opCause, selectorCause, modifierCause, withoutText, unknownSelector, unknownModifier}
-use Rattle.cascade.specs.Keys.{textured, either, bump, stagesWhere, maskOf, readsConstant, namesFactor, lastConstant, anyFactor}
+use Rattle.cascade.specs.Keys.{textured, some, bump, stagesWhere, maskOf, readsConstant, namesFactor, lastConstant, anyFactor}
 use Rattle.cascade.specs.Reading.{readsTemp, readsTexel, live, lined, marked, luminance, readsBumpEnv}
 use Rattle.cascade.specs.Warnings.{appliesColour, appliesAlpha}
 use Rattle.cascade.specs.Survey.{marksOf}
@@ -16,8 +16,8 @@ use Rattle.cascade.specs.declared.walks.Marks.{Marks}
 -- a combiner gives a cause, and a stage warns of it: it applies a combiner that gives it
 abbrev pub gives : Cause → Combiner → Bool
 gives opCause c = withoutText (c .op)
-gives selectorCause c = either unknownSelector c
-gives modifierCause c = either unknownModifier c
+gives selectorCause c = some unknownSelector c
+gives modifierCause c = some unknownModifier c
 
 unfoldable pub warns : Cause → Stage → Bool
 warns c s = (appliesColour s && gives c (s .colour)) || (appliesAlpha s && gives c (s .alpha))

@@ -18,7 +18,7 @@ appliesAlpha s = not (bump s) && (alphaWritten s && not (fallsBack (textured s) 
 
 -- what a combiner of stage i reports, where it is applied
 abbrev pub combinerReports : Bool → ℕ → Combiner → List Report
-combinerReports applied i c = cond applied (appliedReports i (c .op) (c .arg1) (c .arg2)) []
+combinerReports applied i c = cond applied (appliedReports i (c .op) (c .arg1) (c .arg2) (c .arg0)) []
 
 abbrev pub stageReports : ℕ → Stage → List Report
 stageReports i s = combinerReports (appliesColour s) i (s .colour) ++ combinerReports (appliesAlpha s) i (s .alpha)

@@ -14,25 +14,43 @@ use combiners::Source;
 use combiners::arguments::arg_of;
 use combiners::codes::*;
 use combiners::ops::op_of;
+use combiners::ops::three_operands;
 use values::Combiner;
 use values::Stage;
 ghost use mathlib.Core.Path.{_≡_};
-ghost use Rattle.cascade.specs.Stages.{fallback, combined, expressionOf, alphaOf, decode};
+ghost use Rattle.cascade.specs.Stages.{currentArg, fallback, arg0Of, combined, expressionOf, alphaOf, decode};
+
+fn current_arg() -> Arg
+    ensures { λ r. ⌜ r ≡ currentArg ⌝ }
+{
+    Arg {
+        source: Source::Current,
+        replicate: false,
+        complement: false,
+    }
+}
 
 // CURRENT by itself.
 fn fallback() -> Expression
     ensures { λ r. ⌜ r ≡ fallback ⌝ }
 {
-    let current = Arg {
-        source: Source::Current,
-        replicate: false,
-        complement: false,
-    };
+    let current = current_arg();
     Expression {
         op: Op::SelectArg1,
         arg1: current,
         arg2: current,
+        arg0: current,
     }
+}
+
+// Few ops have an argument 0, so the others do without resolving it.
+fn arg0_of(textured: bool, c: Combiner) -> Arg
+    ensures { λ r. ⌜ r ≡ arg0Of textured c ⌝ }
+{
+    if three_operands(c.op) {
+        return arg_of(c.arg0, textured);
+    }
+    current_arg()
 }
 
 fn combined(textured: bool, c: Combiner) -> Expression
@@ -41,10 +59,12 @@ fn combined(textured: bool, c: Combiner) -> Expression
     let op = op_of(c.op);
     let x = arg_of(c.arg1, textured);
     let y = arg_of(c.arg2, textured);
+    let z = arg0_of(textured, c);
     Expression {
         op: op,
         arg1: x,
         arg2: y,
+        arg0: z,
     }
 }
 

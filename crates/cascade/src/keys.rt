@@ -2,11 +2,12 @@
 //!
 //! A rule that rarely applies first tests for the rare argument, and returns early without it.
 use combiners::codes::*;
+use combiners::ops::three_operands;
 use values::Combiner;
 use values::Key;
 use values::Stage;
 ghost use mathlib.Core.Path.{_≡_};
-ghost use Rattle.cascade.specs.Keys.{textured, toTemp, activeCount, readsFirst, readsSecond, selects, either, reads, fallsBack, isBumpOp, bump, alphaFromColour, readsConstant, blendsByFactor, namesFactor};
+ghost use Rattle.cascade.specs.Keys.{textured, toTemp, activeCount, readsFirst, readsSecond, selects, third, some, reads, fallsBack, isBumpOp, bump, alphaFromColour, readsConstant, blendsByFactor, namesFactor};
 
 const STAGES: usize = 8;
 
@@ -64,10 +65,17 @@ pub(crate) fn selects(selector: u8, arg: u8) -> bool
     arg % SELECTORS == selector
 }
 
-fn either_selects(selector: u8, c: Combiner) -> bool
-    ensures { λ r. ⌜ r ≡ either (selects selector) c ⌝ }
+// Argument 0 selects it, of an op that has one.
+pub(crate) fn third_selects(selector: u8, c: Combiner) -> bool
+    ensures { λ r. ⌜ r ≡ third (selects selector) c ⌝ }
 {
-    selects(selector, c.arg1) | selects(selector, c.arg2)
+    three_operands(c.op) & selects(selector, c.arg0)
+}
+
+fn some_selects(selector: u8, c: Combiner) -> bool
+    ensures { λ r. ⌜ r ≡ some (selects selector) c ⌝ }
+{
+    selects(selector, c.arg1) | (selects(selector, c.arg2) | third_selects(selector, c))
 }
 
 fn reads(selector: u8, c: Combiner) -> bool
@@ -75,10 +83,11 @@ fn reads(selector: u8, c: Combiner) -> bool
 {
     let first = selects(selector, c.arg1);
     let second = selects(selector, c.arg2);
-    if !(first | second) {
+    let third = third_selects(selector, c);
+    if !(first | (second | third)) {
         return false;
     }
-    (reads_first(c.op) & first) | (reads_second(c.op) & second)
+    (reads_first(c.op) & first) | ((reads_second(c.op) & second) | third)
 }
 
 pub(crate) fn falls_back(textured: bool, c: Combiner) -> bool
@@ -143,7 +152,7 @@ pub(crate) fn names_factor(s: Stage) -> bool
 {
     let c = s.colour;
     let a = s.alpha;
-    let colour = either_selects(D3DTA_TFACTOR, c);
-    let alpha = either_selects(D3DTA_TFACTOR, a);
+    let colour = some_selects(D3DTA_TFACTOR, c);
+    let alpha = some_selects(D3DTA_TFACTOR, a);
     blends_by_factor(s) | (colour | ((a.op != D3DTOP_DISABLE) & alpha))
 }

@@ -1,5 +1,6 @@
 //! The cascade of a key: its active stages, and what each reads and writes.
 pub mod decode;
+pub mod effective;
 pub mod keys;
 mod plain;
 pub mod reading;

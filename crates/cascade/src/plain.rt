@@ -1,5 +1,6 @@
-//! Plain stages: most name neither a constant, nor the factor, nor TEMP, and no selector or modifier that warns.
+//! Plain stages: most name neither a constant, nor the factor, nor TEMP, no selector or modifier that warns, and have no argument 0.
 use combiners::codes::*;
+use combiners::ops::three_operands;
 use combiners::warnings::UNKNOWN_MODIFIERS;
 use values::Combiner;
 use values::Stage;
@@ -18,7 +19,7 @@ fn plain_argument(arg: u8) -> bool
 fn plain_combiner(c: Combiner) -> bool
     ensures { λ r. ⌜ (r ≡ true → PlainCombiner c) ⌝ }
 {
-    plain_argument(c.arg1) & plain_argument(c.arg2)
+    plain_argument(c.arg1) & (plain_argument(c.arg2) & !three_operands(c.op))
 }
 
 pub(crate) fn is_plain(s: Stage) -> bool

@@ -4,6 +4,7 @@ use crate::keys::falls_back;
 use crate::keys::is_bump_op;
 use crate::keys::selects;
 use crate::keys::textured;
+use crate::keys::third_selects;
 use crate::keys::to_temp;
 use combiners::codes::*;
 use combiners::ops::has_text;
@@ -30,10 +31,11 @@ fn keeps(selector: u8, textured: bool, c: Combiner) -> bool
 {
     let first = selects(selector, c.arg1);
     let second = selects(selector, c.arg2);
-    if !(first | second) {
+    let third = third_selects(selector, c);
+    if !(first | (second | third)) {
         return false;
     }
-    (keeps_first(textured, c.op) & first) | (keeps_second(textured, c.op) & second)
+    (keeps_first(textured, c.op) & first) | ((keeps_second(textured, c.op) & second) | third)
 }
 
 fn reads_own_texel(textured: bool, op: u8) -> bool

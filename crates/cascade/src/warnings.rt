@@ -5,6 +5,7 @@ use crate::keys::falls_back;
 use crate::keys::is_bump;
 use crate::keys::textured;
 use crate::reading::alpha_written;
+use combiners::ops::three_operands;
 use combiners::warnings::unknown_modifier;
 use combiners::warnings::unknown_selector;
 use combiners::warnings::without_text;
@@ -19,13 +20,15 @@ ghost use Rattle.cascade.specs.Walks.{gives, warns};
 fn selector_cause(c: Combiner) -> bool
     ensures { λ r. ⌜ r ≡ gives selectorCause c ⌝ }
 {
-    unknown_selector(c.arg1) | unknown_selector(c.arg2)
+    let third = three_operands(c.op) & unknown_selector(c.arg0);
+    unknown_selector(c.arg1) | (unknown_selector(c.arg2) | third)
 }
 
 fn modifier_cause(c: Combiner) -> bool
     ensures { λ r. ⌜ r ≡ gives modifierCause c ⌝ }
 {
-    unknown_modifier(c.arg1) | unknown_modifier(c.arg2)
+    let third = three_operands(c.op) & unknown_modifier(c.arg0);
+    unknown_modifier(c.arg1) | (unknown_modifier(c.arg2) | third)
 }
 
 fn applies_colour(s: Stage) -> bool

@@ -27,6 +27,9 @@ blendFactorAlpha = 14
 abbrev pub blendTextureAlphaPM : ℕ
 blendTextureAlphaPM = 15
 
+abbrev pub preModulate : ℕ
+preModulate = 17
+
 abbrev pub bumpEnvMap : ℕ
 bumpEnvMap = 22
 
@@ -35,6 +38,12 @@ bumpEnvMapLuminance = 23
 
 abbrev pub dotProduct3 : ℕ
 dotProduct3 = 24
+
+abbrev pub multiplyAdd : ℕ
+multiplyAdd = 25
+
+abbrev pub lerp : ℕ
+lerp = 26
 
 -- D3DTA: the selectors, and the bits of the two modifiers
 abbrev pub texture : ℕ

@@ -6,7 +6,7 @@ use mathlib.Core.Bool.{Bool, false, not, _&&_, _||_, cond}
 use mathlib.Core.List.{List, [], _∷_, _++_}
 use lib.Dec.{eqb, leb}
 use Rattle.combiners.specs.Codes.{selector}
-use Rattle.combiners.specs.Combiners.{hasText}
+use Rattle.combiners.specs.Combiners.{hasText, threeOperands}
 
 pub data Cause : Type 0 where
   opCause selectorCause modifierCause : Cause
@@ -42,9 +42,10 @@ opReports i o = reportIf (withoutText o) opCause i
 abbrev pub argReports : ℕ → ℕ → List Report
 argReports i a = reportIf (unknownSelector a) selectorCause i ++ reportIf (unknownModifier a) modifierCause i
 
--- an operation applied to its two arguments at stage i
-unfoldable pub appliedReports : ℕ → ℕ → ℕ → ℕ → List Report
-appliedReports i o a b = opReports i o ++ (argReports i a ++ argReports i b)
+-- An operation applied to arguments 1, 2 and 0 at stage i. 02: "Argument 0 is resolved, for warnings too, exactly where the op is 25 or 26 and
+-- arguments 1 and 2 are resolved".
+unfoldable pub appliedReports : ℕ → ℕ → ℕ → ℕ → ℕ → List Report
+appliedReports i o a b z = opReports i o ++ (argReports i a ++ (argReports i b ++ cond (threeOperands o) (argReports i z) []))
 
 -- the cause was reported of stage i
 unfoldable pub reported : Cause → ℕ → List Report → Bool

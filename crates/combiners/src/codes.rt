@@ -31,6 +31,8 @@ pub const D3DTOP_BLENDTEXTUREALPHAPM: u8 = 15;
 
 pub const D3DTOP_BLENDCURRENTALPHA: u8 = 16;
 
+pub const D3DTOP_PREMODULATE: u8 = 17;
+
 pub const D3DTOP_MODULATEALPHA_ADDCOLOR: u8 = 18;
 
 pub const D3DTOP_MODULATECOLOR_ADDALPHA: u8 = 19;
@@ -44,6 +46,10 @@ pub const D3DTOP_BUMPENVMAP: u8 = 22;
 pub const D3DTOP_BUMPENVMAPLUMINANCE: u8 = 23;
 
 pub const D3DTOP_DOTPRODUCT3: u8 = 24;
+
+pub const D3DTOP_MULTIPLYADD: u8 = 25;
+
+pub const D3DTOP_LERP: u8 = 26;
 
 // The selector of an argument is its low four bits, one of sixteen.
 pub const SELECTORS: u8 = 16;

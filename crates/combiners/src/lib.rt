@@ -45,10 +45,14 @@ pub enum Op {
     ModulateInvColorAddAlpha,
     DotProduct3,
     Other,
+    MultiplyAdd,
+    Lerp,
 }
 
+// An operation with its arguments. MultiplyAdd and Lerp alone have argument 0 in their texts.
 pub struct Expression {
     pub op: Op,
     pub arg1: Arg,
     pub arg2: Arg,
+    pub arg0: Arg,
 }

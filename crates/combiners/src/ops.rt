@@ -1,8 +1,8 @@
-//! The operation that a code names, and whether it has a text.
+//! The operation that a code names, whether it has a text, and whether it has an argument 0.
 use crate::Op;
 use crate::codes::*;
 ghost use mathlib.Core.Path.{_≡_};
-ghost use Rattle.combiners.specs.Combiners.{hasText, opOf};
+ghost use Rattle.combiners.specs.Combiners.{hasText, opOf, threeOperands};
 
 // The operation of a code: the codes without a text fall to argument 1.
 pub fn op_of(code: u8) -> Op
@@ -29,15 +29,23 @@ pub fn op_of(code: u8) -> Op
         D3DTOP_MODULATEINVALPHA_ADDCOLOR => Op::ModulateInvAlphaAddColor,
         D3DTOP_MODULATEINVCOLOR_ADDALPHA => Op::ModulateInvColorAddAlpha,
         D3DTOP_DOTPRODUCT3 => Op::DotProduct3,
-        0..=1 | 17 | 22..=23 | 25..=255 => Op::Other,
+        D3DTOP_MULTIPLYADD => Op::MultiplyAdd,
+        D3DTOP_LERP => Op::Lerp,
+        0..=1 | 17 | 22..=23 | 27..=255 => Op::Other,
     }
 }
 
 pub fn has_text(op: u8) -> bool
     ensures { λ r. ⌜ r ≡ hasText op ⌝ }
 {
-    // PREMODULATE stands between the two runs.
+    // PREMODULATE and the two of bump maps stand between the runs.
     let before = (D3DTOP_SELECTARG1 <= op) & (op <= D3DTOP_BLENDCURRENTALPHA);
     let behind = (D3DTOP_MODULATEALPHA_ADDCOLOR <= op) & (op <= D3DTOP_MODULATEINVCOLOR_ADDALPHA);
-    before | (behind | (op == D3DTOP_DOTPRODUCT3))
+    before | (behind | ((D3DTOP_DOTPRODUCT3 <= op) & (op <= D3DTOP_LERP)))
+}
+
+pub fn three_operands(op: u8) -> bool
+    ensures { λ r. ⌜ r ≡ threeOperands op ⌝ }
+{
+    (op == D3DTOP_MULTIPLYADD) | (op == D3DTOP_LERP)
 }

@@ -3,26 +3,31 @@ use Prim.Native.Nat.{ℕ, _≤_, _<_}
 use mathlib.Core.Bool.{true, false}
 use mathlib.Core.Path.{_≡_, refl, ap, sym, subst, _∙_}
 use mathlib.Core.List.{List, _++_}
+use mathlib.Core.Logic.{by-cases}
 use native.Mathlib.Nat.{zero-add}
+use native.Mathlib.Decide.{decLe}
+use native.Mathlib.Omega.{arith}
 use borrow.Author.Tests.{le-ltb, lt-ltb}
 use lib.Dec.{leb, T, leb→le}
 use lib.ListN.{length, take, drop}
 use lib.Seq.{take-at}
-use Rattle.text.specs.Text.{raw}
+use Rattle.text.specs.Text.{raw, flat}
 use Rattle.text.specs.Buffer.{Wrote}
 use Rattle.text.proofs.Laws.{whole}
 use Rattle.cascade.specs.Keys.{active}
+use Rattle.cascade.specs.Effective.{effectiveStages, effective}
+use Rattle.cascade.proofs.Narrowing.{effective-twice, effective-flags}
 use Rattle.cascade.specs.Reading.{lookupsOf}
 use Rattle.cascade.specs.Survey.{surveyOf}
 use Rattle.values.specs.declared.Key.{Key}
 use Rattle.cascade.specs.declared.Survey.{Survey}
-use Rattle.shader.specs.Whole.{wholeText}
+use Rattle.shader.specs.Whole.{bodyText, wholeText}
 use Rattle.values.specs.Flags.{stageFlagsBad, variantFlagsBad}
 use Rattle.values.specs.Entries.{entryGood}
 use Rattle.values.specs.Words.{entryReserved}
 use Rattle.values.specs.Admitted.{Admitted}
-use Rattle.shader.specs.Results.{textOf, inFront, alphaWarning, emittedOf, answerOf, answerNumber, emissionNumber}
-use Rattle.shader.specs.Demand.{Demand3}
+use Rattle.shader.specs.Results.{textOf, inFront, bufferAfter, alphaWarning, emittedOf, answerOf, answerNumber, emissionNumber}
+use Rattle.shader.specs.Demand.{Demand3, Demanded}
 use Rattle.values.specs.declared.Variant.{Variant}
 use Rattle.values.specs.declared.Entry.{Entry}
 use Rattle.values.specs.declared.Emitted.{Emitted}
@@ -39,8 +44,8 @@ unfolding entryGood
 entry-short e h = leb→le (e .len) 32 (and-fst (leb (e .len) 32) _ (subst T (sym h) tt))
 
 -- a whole text in a buffer with room for it, and copied from the front of another
-pub placed : {l l′ : List ℕ} {at : ℕ} (k : Key) (v : Variant) (e : Entry) → Wrote l 0 l′ at (wholeText k v e) → length (textOf k v e) ≤ length l
-    → (at ≡ length (textOf k v e)) × (l′ ≡ inFront (textOf k v e) l)
+pub placed : {l l′ : List ℕ} {at : ℕ} (k : Key) (v : Variant) (e : Entry) → Wrote l 0 l′ at (wholeText k v e) → length (flat (wholeText k v e)) ≤ length l
+    → (at ≡ length (flat (wholeText k v e))) × (l′ ≡ inFront (flat (wholeText k v e)) l)
 placed k v e w h = (w .fits (rw zero-add h) .1 ∙ rw zero-add, whole w h)
 
 pub copied : (t out aside rest : List ℕ) {out′ : List ℕ} {n at : ℕ} → n ≡ length t → aside ≡ t ++ rest → length t ≤ length out
@@ -77,8 +82,8 @@ module _ (k : Key) (v : Variant) (e : Entry) (room : ℕ) where
   pub numbered : {a : Answer} → a ≡ answerOf k v e room → answerNumber a ≡ emissionNumber k v e room
   numbered h = ap answerNumber h ∙ number-of-answer k v e room
 
-pub accepted : (k : Key) (v : Variant) (e : Entry) (u : Survey) (at lookups : ℕ) → u ≡ surveyOf (k .stages) → at ≡ length (textOf k v e)
-    → lookups ≡ lookupsOf (u .live) (active (k .stages))
+pub accepted : (k : Key) (v : Variant) (e : Entry) (u : Survey) (at lookups : ℕ) → effectiveStages k ≡ k .stages → u ≡ surveyOf (k .stages)
+    → at ≡ length (textOf k v e) → lookups ≡ lookupsOf (u .live) (active (k .stages))
     → record {
       length = at;
       mask = u .mask;
@@ -91,9 +96,34 @@ pub accepted : (k : Key) (v : Variant) (e : Entry) (u : Survey) (at lookups : �
     }
     ≡ emittedOf k v e
 unfolding surveyOf
-accepted k v e u at lookups hu ha hl = rw (hl, ha, hu)
+accepted k v e u at lookups he hu ha hl = rw (hl, ha, hu, he)
 
-pub demanded : (k : Key) (v : Variant) (e : Entry) (m : Emitted) (out out′ : List ℕ) → length (k .stages) ≤ 8 → entryGood e ≡ true → m ≡ emittedOf k v e
-    → out′ ≡ inFront (textOf k v e) out → Demand3 k (take (m .length) out′) m
-demanded k v e m out out′ l g hm ho =
-    rw (hm, ho, take-at (textOf k v e) (drop (length (textOf k v e)) out) _ refl) (demand k v e l (subst T (sym g) tt))
+-- Demand 3 holds of the answer and of the bytes that the buffer then holds.
+module _ (k : Key) (v : Variant) (e : Entry) (out out′ : List ℕ) (l : length (k .stages) ≤ 8) (h : Admitted k v e) where
+  in-the-buffer : (m : Emitted) → m ≡ emittedOf k v e → out′ ≡ inFront (textOf k v e) out → Demand3 k (take (m .length) out′) m
+  in-the-buffer m hm ho =
+      rw (hm, ho, take-at (textOf k v e) (drop (length (textOf k v e)) out) _ refl) (demand k v e l (subst T (sym (h .entryName)) tt))
+
+  pub demanded : (r : Answer) → r ≡ answerOf k v e (length out) → out′ ≡ bufferAfter r (textOf k v e) out → Demanded k r out′
+  demanded r hr ho =
+      by-cases (decLe (length (textOf k v e)) (length out))
+      (λ fits. let a = hr ∙ sym (with-room k v e (length out) h fits) in rw a (in-the-buffer _ refl (rw a at ho)))
+      (λ over. rw (hr ∙ sym (no-room k v e (length out) h (omega (arith, over)))) tt)
+
+-- the text of a key whose stages take effect as they are
+pub effective-whole : (k : Key) (v : Variant) (e : Entry) → effectiveStages k ≡ k .stages → flat (wholeText k v e) ≡ textOf k v e
+unfolding wholeText bodyText
+effective-whole k v e h = rw h
+
+-- The stages that take effect are those of the key that takes effect, so it is answered and written alike.
+module _ (k : Key) (v : Variant) (e : Entry) where
+  pub effective-admitted : Admitted k v e → Admitted (effective k) v e
+  effective-admitted h =
+      record { stageFlags = effective-flags k ∙ h .stageFlags; variantFlags = h .variantFlags; entryName = h .entryName; entryWord = h .entryWord }
+
+  pub effective-text : textOf (effective k) v e ≡ textOf k v e
+  effective-text = rw (effective-twice k)
+
+  pub effective-answer : (room : ℕ) → answerOf (effective k) v e room ≡ answerOf k v e room
+  unfolding answerOf
+  effective-answer room = rw (effective-flags k, effective-twice k)

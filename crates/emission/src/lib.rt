@@ -1,5 +1,7 @@
 //! Emission from values: a key, a variant and an entry to Metal text in a lent buffer.
 use cascade::Survey;
+use cascade::effective::any_of_three;
+use cascade::effective::effective;
 use cascade::walks::survey;
 use function::Place;
 use function::put_whole;
@@ -15,10 +17,13 @@ pub use values::Variant;
 ghost use Prim.Native.Nat.{_≤_, _<_};
 ghost use mathlib.Core.Path.{_≡_};
 ghost use lib.ListN.{length};
+ghost use Rattle.text.specs.Text.{flat};
 ghost use Rattle.cascade.specs.Keys.{active};
+ghost use Rattle.cascade.specs.Effective.{effectiveStages};
 ghost use Rattle.cascade.specs.Reading.{lookupsOf};
 ghost use Rattle.cascade.specs.Survey.{surveyOf};
 ghost use Rattle.shader.specs.Results.{answerNumber, answerOf, bufferAfter, emissionNumber, frontOf, inFront, textOf};
+ghost use Rattle.shader.specs.Whole.{wholeText};
 ghost use Rattle.shader.specs.Demand.{Demanded};
 ghost use Rattle.values.specs.Admitted.{Admitted};
 
@@ -28,13 +33,13 @@ const ALWAYS: u8 = 8;
 // No text is longer.
 const MOST_TEXT: usize = 16384;
 
-// Writes the text to the front of out, if it fits; else out stays. No text is longer than 16,384 bytes: a buffer of that length takes it at
-// once, and for a shorter one it is written aside.
+// Writes the text of a key with the stages that take effect to the front of out, if it fits; else out stays. No text is longer than 16,384 bytes: a
+// buffer of that length takes it at once, and for a shorter one it is written aside.
 fn put_text(out: &mut [u8], k: Key, v: Variant, e: Entry, u: Survey) -> Place
     requires { ⌜ (u ≡ surveyOf (k .stages)) × (e .len ≤ 32) ⌝ }
-    ensures place { λ r. ⌜ r .at ≡ length (textOf k v e) ⌝ }
-    ensures fits { λ _. ⌜ (length (textOf k v e) ≤ length (now (out .entry)) → now (out .exit) ≡ inFront (textOf k v e) (now (out .entry))) ⌝ }
-    ensures over { λ _. ⌜ (length (now (out .entry)) < length (textOf k v e) → now (out .exit) ≡ now (out .entry)) ⌝ }
+    ensures place { λ r. ⌜ r .at ≡ length (flat (wholeText k v e)) ⌝ }
+    ensures fits { λ _. ⌜ (length (flat (wholeText k v e)) ≤ length (now (out .entry)) → now (out .exit) ≡ inFront (flat (wholeText k v e)) (now (out .entry))) ⌝ }
+    ensures over { λ _. ⌜ (length (now (out .entry)) < length (flat (wholeText k v e)) → now (out .exit) ≡ now (out .entry)) ⌝ }
     ensures lookups { λ r. ⌜ r .lookups ≡ lookupsOf (u .live) (active (k .stages)) ⌝ }
 {
     if MOST_TEXT <= out.len() {
@@ -48,13 +53,11 @@ fn put_text(out: &mut [u8], k: Key, v: Variant, e: Entry, u: Survey) -> Place
     w
 }
 
-// Writes the text of values that are free of the causes 3, 5, 6 and 13 to the front of out, without checking them again.
-pub fn emit_checked(key: Key, variant: Variant, entry: Entry, out: &mut [u8]) -> Answer
-    requires { ⌜ Admitted key variant entry ⌝ }
+// Emission from admitted values, of a key whose stages take effect as they are.
+fn emit_effective(key: Key, variant: Variant, entry: Entry, out: &mut [u8]) -> Answer
+    requires { ⌜ (effectiveStages key ≡ key .stages) × Admitted key variant entry ⌝ }
     ensures answer { λ r. ⌜ r ≡ answerOf key variant entry (length (now (out .entry))) ⌝ }
     ensures buffer { λ r. ⌜ now (out .exit) ≡ bufferAfter r (textOf key variant entry) (now (out .entry)) ⌝ }
-    ensures names { λ r. ⌜ Demanded key r (now (out .exit)) ⌝ }
-    ensures number { λ r. ⌜ answerNumber r ≡ emissionNumber key variant entry (length (now (out .entry))) ⌝ }
 {
     let u = survey(key);
     let written = put_text(out, key, variant, entry, u);
@@ -71,6 +74,22 @@ pub fn emit_checked(key: Key, variant: Variant, entry: Entry, out: &mut [u8]) ->
         modifier_warnings: u.modifier_warnings,
         alpha_warning: ALWAYS < variant.alpha_func,
     })
+}
+
+// Writes the text of values that are free of the causes 3, 5, 6 and 13 to the front of out, without checking them again. Few keys of kind 1 have an
+// op of three operands, so the others go on without a copy of their stages.
+pub fn emit_checked(key: Key, variant: Variant, entry: Entry, out: &mut [u8]) -> Answer
+    requires { ⌜ Admitted key variant entry ⌝ }
+    ensures answer { λ r. ⌜ r ≡ answerOf key variant entry (length (now (out .entry))) ⌝ }
+    ensures buffer { λ r. ⌜ now (out .exit) ≡ bufferAfter r (textOf key variant entry) (now (out .entry)) ⌝ }
+    ensures names { λ r. ⌜ Demanded key r (now (out .exit)) ⌝ }
+    ensures number { λ r. ⌜ answerNumber r ≡ emissionNumber key variant entry (length (now (out .entry))) ⌝ }
+{
+    if !key.wide & any_of_three(key) {
+        let k = effective(key);
+        return emit_effective(k, variant, entry, out);
+    }
+    emit_effective(key, variant, entry, out)
 }
 
 // Writes the text of a key, a variant and an entry to the front of out; bytes behind it stay. A refusal leaves out as it was.

@@ -6,7 +6,7 @@ use mathlib.Core.Bool.{Bool, cond}
 use Rattle.text.specs.Text.{Text, bytes, lit, _⊕_}
 use Rattle.text.specs.Marks.{numbered}
 use Rattle.combiners.specs.declared.Op.{Op}
-use Rattle.combiners.specs.declared.Op.the-variants.{SelectArg1, SelectArg2, Modulate, Modulate2X, Modulate4X, Add, AddSigned, AddSigned2X, Subtract, AddSmooth, BlendDiffuseAlpha, BlendTextureAlpha, BlendFactorAlpha, BlendTextureAlphaPM, BlendCurrentAlpha, ModulateAlphaAddColor, ModulateColorAddAlpha, ModulateInvAlphaAddColor, ModulateInvColorAddAlpha, DotProduct3, Other}
+use Rattle.combiners.specs.declared.Op.the-variants.{SelectArg1, SelectArg2, Modulate, Modulate2X, Modulate4X, Add, AddSigned, AddSigned2X, Subtract, AddSmooth, BlendDiffuseAlpha, BlendTextureAlpha, BlendFactorAlpha, BlendTextureAlphaPM, BlendCurrentAlpha, ModulateAlphaAddColor, ModulateColorAddAlpha, ModulateInvAlphaAddColor, ModulateInvColorAddAlpha, DotProduct3, Other, MultiplyAdd, Lerp}
 use Rattle.expressions.specs.declared.forms.Opening.{Opening}
 use Rattle.expressions.specs.declared.forms.Opening.the-variants as O
 use Rattle.expressions.specs.declared.forms.Joining.{Joining}
@@ -16,28 +16,31 @@ use Rattle.expressions.specs.declared.forms.Ending.the-variants as C
 use Rattle.expressions.specs.declared.forms.Form.{Form}
 use Rattle.expressions.specs.declared.forms.Form.the-variants.{Arg1, Arg2, Both}
 
--- i is the stage, a and b are the texts of argument 1 and argument 2
-abbrev pub openingText : Opening → Text
-openingText O.Bracket = lit "("
-openingText O.Saturate = lit "saturate("
-openingText O.SaturateTwice = lit "saturate(2.0 * "
-openingText O.SaturateFourTimes = lit "saturate(4.0 * "
-openingText O.SaturateTwiceSum = lit "saturate(2.0 * ("
-openingText O.SaturateInverse = lit "saturate((1.0 - "
-openingText O.Dot = lit "float4(saturate(4.0 * dot(("
+-- i is the stage; a, b and z are the texts of arguments 1, 2 and 0
+abbrev pub openingText : Text → Opening → Text
+openingText z O.Bracket = lit "("
+openingText z O.Saturate = lit "saturate("
+openingText z O.SaturateTwice = lit "saturate(2.0 * "
+openingText z O.SaturateFourTimes = lit "saturate(4.0 * "
+openingText z O.SaturateTwiceSum = lit "saturate(2.0 * ("
+openingText z O.SaturateInverse = lit "saturate((1.0 - "
+openingText z O.Dot = lit "float4(saturate(4.0 * dot(("
+openingText z O.SaturateArg0Plus = lit "saturate(" ⊕ z ⊕ lit " + "
+openingText z O.BracketArg0Times = lit "(" ⊕ z ⊕ lit " * "
 
-abbrev pub joiningText : ℕ → Text → Joining → Text
-joiningText i a M.Times = lit " * "
-joiningText i a M.Plus = lit " + "
-joiningText i a M.Minus = lit " - "
-joiningText i a M.TimesDiffuseAlphaPlus = lit " * in.color0.a + "
-joiningText i a M.TimesTexelAlphaPlus = numbered i (bytes " * t#.a + ")
-joiningText i a M.TimesFactorAlphaPlus = lit " * ps_c[0].a + "
-joiningText i a M.TimesCurrentAlphaPlus = lit " * current.a + "
-joiningText i a M.PlusArg1AlphaTimes = lit " + (" ⊕ a ⊕ lit ").a * "
-joiningText i a M.PlusInverseArg1AlphaTimes = lit " + (1.0 - (" ⊕ a ⊕ lit ").a) * "
-joiningText i a M.BracketTimes = lit ") * "
-joiningText i a M.Dot = lit ").rgb - 0.5, ("
+abbrev pub joiningText : ℕ → Text → Text → Joining → Text
+joiningText i a z M.Times = lit " * "
+joiningText i a z M.Plus = lit " + "
+joiningText i a z M.Minus = lit " - "
+joiningText i a z M.TimesDiffuseAlphaPlus = lit " * in.color0.a + "
+joiningText i a z M.TimesTexelAlphaPlus = numbered i (bytes " * t#.a + ")
+joiningText i a z M.TimesFactorAlphaPlus = lit " * ps_c[0].a + "
+joiningText i a z M.TimesCurrentAlphaPlus = lit " * current.a + "
+joiningText i a z M.PlusArg1AlphaTimes = lit " + (" ⊕ a ⊕ lit ").a * "
+joiningText i a z M.PlusInverseArg1AlphaTimes = lit " + (1.0 - (" ⊕ a ⊕ lit ").a) * "
+joiningText i a z M.BracketTimes = lit ") * "
+joiningText i a z M.Dot = lit ").rgb - 0.5, ("
+joiningText i a z M.PlusInverseArg0Times = lit " + (1.0 - " ⊕ z ⊕ lit ") * "
 
 abbrev pub endingText : ℕ → Text → Ending → Text
 endingText i a C.Bracket = lit ")"
@@ -51,10 +54,10 @@ endingText i a C.TimesInverseArg1 = lit " * (1.0 - " ⊕ a ⊕ lit "))"
 endingText i a C.PlusArg1Alpha = lit " + (" ⊕ a ⊕ lit ").a)"
 endingText i a C.Dot = lit ").rgb - 0.5)))"
 
-abbrev pub formText : ℕ → Text → Text → Form → Text
-formText i a b Arg1 = a
-formText i a b Arg2 = b
-formText i a b (Both o m c) = openingText o ⊕ a ⊕ joiningText i a m ⊕ b ⊕ endingText i a c
+abbrev pub formText : ℕ → Text → Text → Text → Form → Text
+formText i a b z Arg1 = a
+formText i a b z Arg2 = b
+formText i a b z (Both o m c) = openingText z o ⊕ a ⊕ joiningText i a z m ⊕ b ⊕ endingText i a c
 
 -- the form of an operation, with a texture bound or without
 abbrev pub formOf : Bool → Op → Form
@@ -79,3 +82,5 @@ formOf textured ModulateInvAlphaAddColor = Both O.Saturate M.PlusInverseArg1Alph
 formOf textured ModulateInvColorAddAlpha = Both O.SaturateInverse M.BracketTimes C.PlusArg1Alpha
 formOf textured DotProduct3 = Both O.Dot M.Dot C.Dot
 formOf textured Other = Arg1
+formOf textured MultiplyAdd = Both O.SaturateArg0Plus M.Times C.Bracket
+formOf textured Lerp = Both O.BracketArg0Times M.PlusInverseArg0Times C.Bracket

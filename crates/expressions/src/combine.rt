@@ -24,15 +24,16 @@ fn put_both(
     ending: Ending,
     x: Arg,
     y: Arg,
+    z: Arg,
     stage: u8,
 ) -> usize
     requires { ⌜ stage < 8 ⌝ }
     ensures { λ r. ⌜ Wrote (now (out .entry)) at (now (out .exit)) r
-        (formText stage (argText stage x) (argText stage y) (Form.Both opening joining ending)) ⌝ }
+        (formText stage (argText stage x) (argText stage y) (argText stage z) (Form.Both opening joining ending)) ⌝ }
 {
-    let mut p = put_opening(out, at, opening);
+    let mut p = put_opening(out, at, opening, z, stage);
     p = put_arg(out, p, x, stage);
-    p = put_joining(out, p, joining, x, stage);
+    p = put_joining(out, p, joining, x, z, stage);
     p = put_arg(out, p, y, stage);
     put_ending(out, p, ending, x, stage)
 }
@@ -49,13 +50,14 @@ pub(crate) fn put_expression(
 {
     let x = e.arg1;
     let y = e.arg2;
+    let z = e.arg0;
     let op = e.op;
     let form = form_of(op, textured);
     match form {
         Form::Arg1 => put_arg(out, at, x, stage),
         Form::Arg2 => put_arg(out, at, y, stage),
         Form::Both(opening, joining, ending) => {
-            put_both(out, at, opening, joining, ending, x, y, stage)
+            put_both(out, at, opening, joining, ending, x, y, z, stage)
         }
     }
 }

@@ -3,7 +3,7 @@ use combiners::Op;
 ghost use mathlib.Core.Path.{_≡_};
 ghost use Rattle.expressions.specs.Forms.{formOf};
 
-// The words before argument 1. As in Microsoft's names, the inverse of a value is one minus the value.
+// The words before argument 1. Those that name argument 0 have its text in them. As in Microsoft's names, the inverse of a value is one minus the value.
 pub(crate) enum Opening {
     Bracket,
     Saturate,
@@ -12,9 +12,11 @@ pub(crate) enum Opening {
     SaturateTwiceSum,
     SaturateInverse,
     Dot,
+    SaturateArg0Plus,
+    BracketArg0Times,
 }
 
-// The words between argument 1 and argument 2. Those that name argument 1 repeat its text.
+// The words between argument 1 and argument 2. Those that name argument 0 or 1 repeat its text.
 pub(crate) enum Joining {
     Times,
     Plus,
@@ -27,6 +29,7 @@ pub(crate) enum Joining {
     PlusInverseArg1AlphaTimes,
     BracketTimes,
     Dot,
+    PlusInverseArg0Times,
 }
 
 // The words behind argument 2. Those that name argument 1 repeat its text.
@@ -43,7 +46,7 @@ pub(crate) enum Ending {
     Dot,
 }
 
-// One argument alone, or both with words around them.
+// Argument 1 or 2 alone, or both with words around them.
 pub(crate) enum Form {
     Arg1,
     Arg2,
@@ -128,5 +131,11 @@ pub(crate) fn form_of(op: Op, textured: bool) -> Form
         ),
         Op::DotProduct3 => Form::Both(Opening::Dot, Joining::Dot, Ending::Dot),
         Op::Other => Form::Arg1,
+        Op::MultiplyAdd => Form::Both(Opening::SaturateArg0Plus, Joining::Times, Ending::Bracket),
+        Op::Lerp => Form::Both(
+            Opening::BracketArg0Times,
+            Joining::PlusInverseArg0Times,
+            Ending::Bracket,
+        ),
     }
 }

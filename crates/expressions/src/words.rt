@@ -11,8 +11,9 @@ ghost use Rattle.text.specs.Buffer.{Wrote};
 ghost use Rattle.combiners.specs.Arguments.{argText};
 ghost use Rattle.expressions.specs.Forms.{openingText, joiningText, endingText};
 
-pub(crate) fn put_opening(out: &mut [u8], at: usize, w: Opening) -> usize
-    ensures { λ r. ⌜ Wrote (now (out .entry)) at (now (out .exit)) r (openingText w) ⌝ }
+pub(crate) fn put_opening(out: &mut [u8], at: usize, w: Opening, z: Arg, stage: u8) -> usize
+    requires { ⌜ stage < 8 ⌝ }
+    ensures { λ r. ⌜ Wrote (now (out .entry)) at (now (out .exit)) r (openingText (argText stage z) w) ⌝ }
 {
     match w {
         Opening::Bracket => put(out, at, b"("),
@@ -22,12 +23,22 @@ pub(crate) fn put_opening(out: &mut [u8], at: usize, w: Opening) -> usize
         Opening::SaturateTwiceSum => put(out, at, b"saturate(2.0 * ("),
         Opening::SaturateInverse => put(out, at, b"saturate((1.0 - "),
         Opening::Dot => put(out, at, b"float4(saturate(4.0 * dot(("),
+        Opening::SaturateArg0Plus => {
+            let mut p = put(out, at, b"saturate(");
+            p = put_arg(out, p, z, stage);
+            put(out, p, b" + ")
+        }
+        Opening::BracketArg0Times => {
+            let mut p = put(out, at, b"(");
+            p = put_arg(out, p, z, stage);
+            put(out, p, b" * ")
+        }
     }
 }
 
-pub(crate) fn put_joining(out: &mut [u8], at: usize, w: Joining, x: Arg, stage: u8) -> usize
+pub(crate) fn put_joining(out: &mut [u8], at: usize, w: Joining, x: Arg, z: Arg, stage: u8) -> usize
     requires { ⌜ stage < 8 ⌝ }
-    ensures { λ r. ⌜ Wrote (now (out .entry)) at (now (out .exit)) r (joiningText stage (argText stage x) w) ⌝ }
+    ensures { λ r. ⌜ Wrote (now (out .entry)) at (now (out .exit)) r (joiningText stage (argText stage x) (argText stage z) w) ⌝ }
 {
     match w {
         Joining::Times => put(out, at, b" * "),
@@ -49,6 +60,11 @@ pub(crate) fn put_joining(out: &mut [u8], at: usize, w: Joining, x: Arg, stage: 
         }
         Joining::BracketTimes => put(out, at, b") * "),
         Joining::Dot => put(out, at, b").rgb - 0.5, ("),
+        Joining::PlusInverseArg0Times => {
+            let mut p = put(out, at, b" + (1.0 - ");
+            p = put_arg(out, p, z, stage);
+            put(out, p, b") * ")
+        }
     }
 }
 

@@ -1,10 +1,12 @@
--- What the program prints for no input, for an emit record alone, for write records and for 01's example, computed.
+-- What the program prints for no input, for an emit record alone, for write records, for a kind that there is not and for 01's example, with a key of
+-- either kind, computed.
 use mathlib.Core.Path.{_≡_, refl}
-use mathlib.Core.List.{List, [], _∷_, _++_}
+use mathlib.Core.List.{List, [], _∷_, _++_, map}
 use Prim.Native.Nat.{ℕ}
 use Prim.Native.Char.{code}
 use lib.ListN.{replicate}
 use Rattle.text.specs.Text.{decimalOf}
+use Rattle.cascade.specs.Effective.{effectiveStages}
 use Rattle.cascade.specs.Keys.{active, stagesWhere, lastConstant, anyFactor, rowsOf}
 use Rattle.cascade.specs.Reading.{live, lookupsOf, readsBumpEnv}
 use Rattle.combiners.specs.Warnings.{reported, maskFrom}
@@ -47,14 +49,23 @@ write-refused : programOutput (5 ∷ 8 ∷ 7 ∷ 0 ∷ 1 ∷ 0 ∷ 0 ∷ []) ≡
 unfolding programOutput printedFrom printed refusedLine decimalOf applyRead applyAs readRecord readAs readBody stateFromBody checkedWrite
 write-refused = refl
 
--- 01's example: "a key with stage 0 op 1 and all else 0, a zero variant, entry `m`, emit"
-example : List ℕ
-example = (1 ∷ 1 ∷ replicate 57 0) ++ (2 ∷ replicate 19 0) ++ (3 ∷ 1 ∷ code "m" ∷ replicate 31 0) ++ (4 ∷ [])
+-- 02, Nine: "kind 6 leaves 2"; 7 is still refused
+no-kind : programOutput (7 ∷ []) ≡ linesOf ("refused 2 at 0" ∷ [])
+unfolding programOutput printedFrom printed refusedLine decimalOf applyRead readRecord
+no-kind = refl
 
-example-printed : programOutput example ≡ linesOf ("emit 0 0 0 0 0 0 0" ∷ (z1Lines ++ ("end 1" ∷ [])))
-unfolding example programOutput printedFrom printed emitLine endLine decimalOf
+-- 01's example: "a key with stage 0 op 1 and all else 0, a zero variant, entry `m`, emit"
+example : List ℕ → List ℕ
+example k = k ++ (2 ∷ replicate 19 0) ++ (3 ∷ 1 ∷ code "m" ∷ replicate 31 0) ++ (4 ∷ [])
+
+-- the output with such a key of kind 1, and with one of kind 6
+keys : List (List ℕ)
+keys = (1 ∷ 1 ∷ replicate 57 0) ∷ (6 ∷ 1 ∷ replicate 73 0) ∷ []
+
+example-printed : map (λ k. programOutput (example k)) keys ≡ replicate 2 (linesOf ("emit 0 0 0 0 0 0 0" ∷ (z1Lines ++ ("end 1" ∷ []))))
+unfolding example keys programOutput printedFrom printed emitLine endLine decimalOf
     holding applyRead applyAs readRecord readAs readBody blankKey blankVariant blankEntry keyFromBody stagesFromBytes variantFromBody entryFromBody
-    active stagesWhere lastConstant anyFactor rowsOf live lookupsOf readsBumpEnv reported maskFrom reportsFrom warnedStages
+    effectiveStages active stagesWhere lastConstant anyFactor rowsOf live lookupsOf readsBumpEnv reported maskFrom reportsFrom warnedStages
     stageFlagsBad all entryGood reservedWord answerOf
     specularText fogText testText srgbText returnText outputText varyingsText srgbHelperText fragmentText frontText stageInText samplersText
     parametersText spriteText stagesText localsText bodyText wholeText

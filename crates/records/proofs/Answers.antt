@@ -19,7 +19,7 @@ use Rattle.values.specs.declared.Refusal.{Refusal}
 use Rattle.values.specs.declared.Refusal.the-variants.{CutShort, UnknownKind, StageFlags, SpecularAdd, VariantFlags, EntryName, ReservedWord, EmitTooEarly, NoRoom, InputTooLong}
 use Rattle.values.specs.declared.Refusal.the-variants.{StageNumber, StateType, StateValue}
 use Rattle.shader.specs.Results.{textOf, emittedOf, answerOf, emissionNumber}
-use Rattle.wire.specs.Bodies.{recordLength}
+use Rattle.wire.specs.Bodies.{keyKind, kindByte, recordLength}
 use Rattle.wire.specs.Values.{keyRecord, variantRecord, entryRecord, stateRecord}
 use Rattle.wire.specs.declared.Kind.the-variants as kind
 use Rattle.wire.specs.declared.Record.{Record}
@@ -88,6 +88,16 @@ positive StageNumber = refl
 positive StateType = refl
 positive StateValue = refl
 
+-- no kind of key is that of an emit record, and a key's record replaces
+no-emit : (wide : Bool) → eqb (kindByte (keyKind wide)) (kindByte kind.Emit) ≡ false
+no-emit true = refl
+no-emit false = refl
+
+key-replaces : (wide : Bool) (n : ℕ) (h : Held) (room : ℕ) → applyAs (keyKind wide) n h room ≡ Replaced n
+unfolding applyAs
+key-replaces true n h room = refl
+key-replaces false n h room = refl
+
 -- P of each case gives P of what is answered.
 pub apply-cases : (P : ApplyAnswer → Type 0) (h : Held) (b : List ℕ) (room : ℕ) → ApplyCases P h b room → P (applyAnswer h b room)
 unfolding appliedNumber applyRead applyAs
@@ -95,7 +105,7 @@ apply-cases P h b room cases =
     read-cases (λ (x : Reading). P (applyRead (x .answer) (x .found) h room)) b
     (record {
       refusal = λ c n. cases .refusal c (rw (n, positive c));
-      key = λ k t. cases .value (keyRecord k) t (rw (t .number, t .first));
+      key = λ k _ t. rw (key-replaces (k .wide)) (cases .value (keyRecord k) t (rw (t .number, t .first, no-emit (k .wide))));
       variant = λ v t. cases .value (variantRecord v) t (rw (t .number, t .first));
       entry = λ e t. cases .value (entryRecord e) t (rw (t .number, t .first));
       emit = λ t. emit-cases P 1 h room (λ c n. cases .refusal c (rw (t .number, t .first) n)) (λ n. cases .text (t .within) (rw (t .number, t .first) n));

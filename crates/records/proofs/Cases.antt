@@ -15,12 +15,13 @@ use Rattle.shader.specs.Results.{answerOf}
 use Rattle.wire.specs.Reading.{readRecord}
 use Rattle.wire.specs.declared.Kind.{Kind}
 use Rattle.wire.proofs.Kind.{the-type}
+use Rattle.wire.proofs.Written.{AnyKey, any-key}
 use Rattle.wire.specs.declared.Kind.the-variants as kind
 use Rattle.wire.specs.declared.Record.{Record}
 use Rattle.wire.specs.declared.Reading.{Reading}
 use Rattle.wire.specs.declared.ReadAnswer.{ReadAnswer}
 use Rattle.wire.specs.declared.ReadAnswer.the-variants as read
-use Rattle.records.specs.Applying.{holdsAll, keyOrDefaults, holding, emissionAnswer, applyAs, applyRead, heldAfter, applied}
+use Rattle.records.specs.Applying.{holdsAll, keyOrDefaults, holding, holdingKey, emissionAnswer, applyAs, applyRead, heldAfter, applied}
 use Rattle.records.specs.declared.Held.{Held}
 use Rattle.records.specs.declared.ApplyAnswer.{ApplyAnswer}
 use Rattle.records.specs.declared.ApplyAnswer.the-variants.{Replaced, Refused}
@@ -72,13 +73,19 @@ module _ (h : Held) (b : List ℕ) (room : ℕ) {x : Reading} (e : x ≡ readRec
         ∙ by-answer t
 
 -- a record of any other kind
-pub replaces : (k : Kind) (n : ℕ) (h : Held) (room : ℕ) → OneOf (0 ∷ 1 ∷ 2 ∷ 4 ∷ []) (tagOf the-type k) → applyAs k n h room ≡ Replaced n
+pub replaces : (k : Kind) (n : ℕ) (h : Held) (room : ℕ) → OneOf (0 ∷ 1 ∷ 2 ∷ 4 ∷ 5 ∷ []) (tagOf the-type k) → applyAs k n h room ≡ Replaced n
 unfolding applyAs
 replaces kind.Key n h room e = refl
 replaces kind.Variant n h room e = refl
 replaces kind.Entry n h room e = refl
-replaces kind.Emit n h room e = absurd (miss (0 ∷ 1 ∷ 2 ∷ 4 ∷ []) 3 tt e)
+replaces kind.Emit n h room e = absurd (miss (0 ∷ 1 ∷ 2 ∷ 4 ∷ 5 ∷ []) 3 tt e)
 replaces kind.State n h room e = refl
+replaces kind.WideKey n h room e = refl
+
+-- a key of either kind is held
+pub holds-key : (r : Record) (h : Held) → AnyKey (r .kind) → holdingKey (r .key) h ≡ holding (r .kind) r h
+unfolding holding
+holds-key r h = any-key (λ (k : Kind). holdingKey (r .key) h ≡ holding k r h) refl refl (r .kind)
 
 -- the key that a write alters: the held one, or the defaults
 pub key-held : (h : Held) → h .«has_key» ≡ true → h .key ≡ keyOrDefaults h
@@ -89,15 +96,6 @@ key-none h e f = rw e f
 
 -- what is held once a write is done to that key
 pub write-held : (r : Record) (h : Held) {before k : Key} → before ≡ keyOrDefaults h → k ≡ writeApplied (r .write) before →
-    _≡_ {A = Held}
-    (record {
-      «has_key» = true;
-      key = k;
-      «has_variant» = h .«has_variant»;
-      variant = h .variant;
-      «has_entry» = h .«has_entry»;
-      entry = h .entry;
-    })
-    (holding kind.State r h)
+    holdingKey k h ≡ holding kind.State r h
 unfolding holding
 write-held r h e f = rw (f, e)

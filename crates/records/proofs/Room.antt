@@ -18,7 +18,7 @@ use Rattle.states.proofs.Keys.{defaults-eight, kept}
 use Rattle.shader.proofs.Length.{never-eight}
 use Rattle.wire.specs.Bodies.{bodyLength, specularByte, keyFromBody, variantFromBody, entryFromBody, stateFromBody}
 use Rattle.wire.specs.Values.{blankKey}
-use Rattle.wire.specs.Reading.{bodyNumber, recordNumber, readRecord}
+use Rattle.wire.specs.Reading.{keyNumber, bodyNumber, recordNumber, readRecord}
 use Rattle.wire.specs.declared.Kind.{Kind}
 use Rattle.wire.specs.declared.Kind.the-variants as kind
 use Rattle.wire.specs.declared.Record.{Record}
@@ -51,6 +51,7 @@ holding-eight kind.Variant r h s t = t
 holding-eight kind.Entry r h s t = t
 holding-eight kind.Emit r h s t = t
 holding-eight kind.State r h s t = let e = start-eight h t in kept (r .write) (keyOrDefaults h) e .stages ∙ e
+holding-eight kind.WideKey r h s t = s
 
 after-eight : (a : ApplyAnswer) (r : Record) (h : Held) → length (r .key .stages) ≡ 8 → EightStages h → EightStages (heldAfter a r h)
 after-eight (Replaced n) r h s t = holding-eight (r .kind) r h s t
@@ -74,13 +75,17 @@ write-number w =
     neither (ltb 7 (w .stage)) 10 _ refl
     (neither (not (isType (w .state))) 11 _ refl (neither (not (takes (w .state) (w .value))) 12 0 refl refl))
 
+key-number : (wide : Bool) (b : List ℕ) → NotEight (keyNumber wide b)
+key-number wide b = neither (stageFlagsBad (keyFromBody wide b .stages)) 3 _ refl (neither (ltb 1 (specularByte wide b)) 4 0 refl refl)
+
 body-number : (k : Kind) (b : List ℕ) → NotEight (bodyNumber k b)
 unfolding bodyNumber
-body-number kind.Key b = neither (stageFlagsBad (keyFromBody b .stages)) 3 _ refl (neither (ltb 1 (specularByte b)) 4 0 refl refl)
+body-number kind.Key b = key-number false b
 body-number kind.Variant b = neither (variantFlagsBad (variantFromBody b)) 5 0 refl refl
 body-number kind.Entry b = neither (entryGood (entryFromBody b)) _ 6 (neither (entryReserved (entryFromBody b)) 13 0 refl refl) refl
 body-number kind.Emit b = refl
 body-number kind.State b = write-number (stateFromBody b)
+body-number kind.WideKey b = key-number true b
 
 record-number : (b : List ℕ) → NotEight (recordNumber b)
 unfolding recordNumber
@@ -88,7 +93,8 @@ record-number [] = refl
 record-number (x ∷ b) =
     neither (eqb x 1) _ _ (whole kind.Key)
     (neither (eqb x 2) _ _ (whole kind.Variant) (neither (eqb x 3) _ _ (whole kind.Entry)
-    (neither (eqb x 4) _ _ (whole kind.Emit) (neither (eqb x 5) _ 2 (whole kind.State) refl))))
+    (neither (eqb x 4) _ _ (whole kind.Emit)
+    (neither (eqb x 5) _ _ (whole kind.State) (neither (eqb x 6) _ 2 (whole kind.WideKey) refl)))))
   where
     whole : (k : Kind) → NotEight (cond (ltb (length b) (bodyLength k)) 1 (bodyNumber k b))
     whole k = neither (ltb (length b) (bodyLength k)) 1 _ refl (body-number k b)

@@ -8,10 +8,10 @@ use mathlib.Core.Option.{Option·getD}
 use Rattle.values.specs.declared.Key.{Key}
 use Rattle.values.specs.declared.StateWrite.{StateWrite}
 use Rattle.states.specs.States.{defaults, getState}
-use Rattle.states.specs.Writes.{accepted, checkedWrite, lastWritten, writeApplied, writesApplied}
+use Rattle.states.specs.Writes.{accepted, anyWidens, checkedWrite, lastWritten, writeApplied, writesApplied}
 use Rattle.states.specs.declared.Checked.{Checked}
 use Rattle.states.proofs.Accepted.{check-cases}
-use Rattle.states.proofs.LastWritten.{last-written}
+use Rattle.states.proofs.LastWritten.{kind-written, last-written}
 use Rattle.wire.specs.Bodies.{bodyBytes, recordBytes}
 use Rattle.wire.specs.Values.{stateRecord}
 use Rattle.wire.specs.Reading.{tookIf, readBody, readAs, readRecord}
@@ -29,12 +29,12 @@ heldBehind [] room h = h
 heldBehind (w ∷ r) room h = heldBehind r room (applied h (recordBytes (stateRecord w)) room .held)
 
 -- the record of a write is read as that write, or refused with its cause
-read-write : (w : StateWrite) → readRecord (recordBytes (stateRecord w)) ≡ tookIf (checkedWrite w) w
+pub read-write : (w : StateWrite) → readRecord (recordBytes (stateRecord w)) ≡ tookIf (checkedWrite w) w
 unfolding readRecord readAs readBody bodyBytes
 read-write w = rw (state-back w [])
 
 -- one write: it is done, or all is left
-one-held : (w : StateWrite) (room : ℕ) (h : Held) →
+pub one-held : (w : StateWrite) (room : ℕ) (h : Held) →
     applied h (recordBytes (stateRecord w)) room .held ≡ cond (accepted w) (holding kind.State (stateRecord w) h) h
 unfolding applyRead applyAs
 one-held w room h =
@@ -62,6 +62,10 @@ key-behind (w ∷ r) room h =
 pub last-held : (ws : List StateWrite) (room : ℕ) (h : Held) → EightStages h → (i t : ℕ) →
     getState i t (keyOrDefaults (heldBehind ws room h)) ≡ Option·getD (lastWritten i t ws) (getState i t (keyOrDefaults h))
 last-held ws room h eight i t = ap (getState i t) (key-behind ws room h) ∙ last-written ws (keyOrDefaults h) (start-eight h eight) i t
+
+-- 02, Nine: types 26 and 27 "make the key a kind 6 key"; "other writes leave a key's kind"
+pub kind-held : (ws : List StateWrite) (room : ℕ) (h : Held) → keyOrDefaults (heldBehind ws room h) .wide ≡ (keyOrDefaults h .wide || anyWidens ws)
+kind-held ws room h = ap (λ (k : Key). k .wide) (key-behind ws room h) ∙ kind-written ws (keyOrDefaults h)
 
 -- a key is held if one was, or once a write is accepted
 abbrev pub anyAccepted : List StateWrite → Bool

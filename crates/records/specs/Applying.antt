@@ -40,24 +40,21 @@ holdsAll h = h .«has_key» && (h .«has_variant» && h .«has_entry»)
 abbrev pub keyOrDefaults : Held → Key
 keyOrDefaults h = cond (h .«has_key») (h .key) defaults
 
+-- a key of either kind, in the place of the one that was held
+abbrev pub holdingKey : Key → Held → Held
+holdingKey k h =
+    record { «has_key» = true; key = k; «has_variant» = h .«has_variant»; variant = h .variant; «has_entry» = h .«has_entry»; entry = h .entry }
+
 -- what is held once a record's value is, or once its write is done. 02, One: "The first write counts as a key for number 7"
 unfoldable pub holding : Kind → Record → Held → Held
-holding kind.Key r h =
-    record { «has_key» = true; key = r .key; «has_variant» = h .«has_variant»; variant = h .variant; «has_entry» = h .«has_entry»; entry = h .entry }
+holding kind.Key r h = holdingKey (r .key) h
 holding kind.Variant r h =
     record { «has_key» = h .«has_key»; key = h .key; «has_variant» = true; variant = r .variant; «has_entry» = h .«has_entry»; entry = h .entry }
 holding kind.Entry r h =
     record { «has_key» = h .«has_key»; key = h .key; «has_variant» = h .«has_variant»; variant = h .variant; «has_entry» = true; entry = r .entry }
 holding kind.Emit r h = h
-holding kind.State r h =
-    record {
-      «has_key» = true;
-      key = writeApplied (r .write) (keyOrDefaults h);
-      «has_variant» = h .«has_variant»;
-      variant = h .variant;
-      «has_entry» = h .«has_entry»;
-      entry = h .entry;
-    }
+holding kind.State r h = holdingKey (writeApplied (r .write) (keyOrDefaults h)) h
+holding kind.WideKey r h = holdingKey (r .key) h
 
 -- emission's answer, to a record that took n bytes
 abbrev pub emissionAnswer : ℕ → Answer → ApplyAnswer
@@ -72,6 +69,7 @@ applyAs kind.Variant n h room = Replaced n
 applyAs kind.Entry n h room = Replaced n
 applyAs kind.Emit n h room = cond (holdsAll h) (emissionAnswer n (answerOf (h .key) (h .variant) (h .entry) room)) (Refused EmitTooEarly)
 applyAs kind.State n h room = Replaced n
+applyAs kind.WideKey n h room = Replaced n
 
 -- by what was read
 unfoldable pub applyRead : ReadAnswer → Record → Held → ℕ → ApplyAnswer

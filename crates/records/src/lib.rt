@@ -78,7 +78,7 @@ fn hold(found: Record, held: Held) -> Held
     let write = found.write;
     let mut after = held;
     match kind {
-        Kind::Key => {
+        Kind::Key | Kind::WideKey => {
             after.has_key = true;
             after.key = key;
             after
@@ -145,7 +145,7 @@ pub fn apply(held: Held, bytes: &[u8], text: &mut [u8]) -> Applied
             held: held,
         },
         ReadAnswer::Took(n) => match kind {
-            Kind::Key | Kind::Variant | Kind::Entry | Kind::State => {
+            Kind::Key | Kind::Variant | Kind::Entry | Kind::State | Kind::WideKey => {
                 let after = hold(found, held);
                 Applied {
                     answer: ApplyAnswer::Replaced(n),

@@ -6,6 +6,7 @@ use Rattle.text.specs.Text.{decimalOf}
 use Rattle.combiners.specs.Arguments.{texelName, constantRow, sourceText, replicated, argText}
 use Rattle.combiners.specs.Combiners.{opText, expressionText}
 use Rattle.cascade.specs.Keys.{active, reads, fallsBack, bump, alphaFromColour, stagesWhere, readsConstant, namesFactor, lastConstant, anyFactor, rowsOf}
+use Rattle.cascade.specs.Effective.{effectiveStages}
 use Rattle.cascade.specs.Reading.{keeps, alphaWritten, readsTemp, readsTexel, live, lined, marked, lookupsOf, readsBumpEnv}
 use Rattle.cascade.specs.Stages.{expressionOf, alphaOf, decode, lineText}
 use Rattle.combiners.specs.Warnings.{appliedReports, reported, maskFrom}
@@ -17,7 +18,7 @@ use Rattle.shader.specs.Whole.{varyingsText, srgbHelperText, fragmentTex
 pub worked : tableHolds table ≡ true
 unfolding decimalOf
     texelName constantRow sourceText replicated argText opText expressionText
-    active reads fallsBack bump alphaFromColour stagesWhere readsConstant namesFactor lastConstant anyFactor rowsOf
+    effectiveStages active reads fallsBack bump alphaFromColour stagesWhere readsConstant namesFactor lastConstant anyFactor rowsOf
     keeps alphaWritten readsTemp readsTexel live lined marked lookupsOf readsBumpEnv
     expressionOf alphaOf decode lineText appliesColour appliesAlpha
     appliedReports reported maskFrom reportsFrom warnedStages

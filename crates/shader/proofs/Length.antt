@@ -9,7 +9,7 @@ use native.Mathlib.Nat.{le-trans}
 use borrow.Author.Tests.{le-ltb}
 use lib.Dec.{eqb, leb, ltb, T, lit≤, leb→le}
 use lib.ListN.{length, length-take}
-use Rattle.text.specs.Text.{bytes, digit, decimalOf}
+use Rattle.text.specs.Text.{bytes, flat, digit, decimalOf}
 use Rattle.text.specs.Format.{Slot, same, cut, find, format, _≔_}
 use Rattle.text.proofs.Laws.{flat-length}
 use Rattle.text.proofs.Size.{most, size-most, room, most-room}
@@ -22,8 +22,10 @@ use Rattle.combiners.specs.declared.Source.the-variants.{Diffuse, Current, Text
 use Rattle.combiners.specs.declared.Op.{Op}
 use Rattle.combiners.specs.declared.Expression.{Expression}
 use Rattle.cascade.specs.Keys.{textured, toTemp, fallsBack, bump, active}
-use Rattle.cascade.specs.Stages.{fallback, combined, expressionOf, alphaOf, decode, lineText}
+use Rattle.cascade.specs.Stages.{fallback, arg0Of, combined, expressionOf, alphaOf, decode, lineText}
 use Rattle.cascade.specs.Reading.{live}
+use Rattle.cascade.specs.Effective.{effective}
+use Rattle.cascade.proofs.Narrowing.{effective-length}
 use Rattle.cascade.specs.declared.Decoded.the-variants.{Bump}
 use Rattle.values.specs.Entries.{nameOf, entryGood}
 use Rattle.values.specs.Words.{entryReserved}
@@ -105,8 +107,9 @@ unfolding expressionText opText
 combined-le i tex c =
     let a = argOf tex (c .arg1) in
     let b = argOf tex (c .arg2) in
-    let slots : List Slot = ("a" ≔ argText i a) ∷ ("b" ≔ argText i b) ∷ ("t" ≔ texelName i) ∷ [] in
-    let slots-le = find-le 24 slots (arg-le i a, (arg-le i b, (texel-le i, tt))) in
+    let z = arg0Of tex c in
+    let slots : List Slot = ("a" ≔ argText i a) ∷ ("b" ≔ argText i b) ∷ ("t" ≔ texelName i) ∷ ("z" ≔ argText i z) ∷ [] in
+    let slots-le = find-le 24 slots (arg-le i a, (arg-le i b, (texel-le i, (arg-le i z, tt)))) in
     le-trans (most-room 24 slots slots-le (cut (template (opOf (c .op)) tex))) (template-le (c .op) tex)
 
 fallback-le : (i : ℕ) (tex : Bool) → most (expressionText i tex fallback) ≤ 160
@@ -219,25 +222,27 @@ body-le k v ss h =
     )
 
 -- 01: "A text has at most 16,384 bytes."
+whole-at-most : (k : Key) (v : Variant) (e : Entry) → length (k .stages) ≤ 8 → length (nameOf e) ≤ 32 → length (flat (wholeText k v e)) ≤ 16384
+unfolding wholeText
+whole-at-most k v e stages n =
+    let ss = active (k .stages) in
+    omega (
+      arith,
+      flat-length (wholeText k v e),
+      size-most (wholeText k v e),
+      front-le v,
+      body-le k v ss (le-trans (active-short (k .stages)) stages),
+    )
+
+pub at-most : (k : Key) (v : Variant) (e : Entry) → length (k .stages) ≤ 8 → length (e .name) ≤ 32 → length (flat (wholeText k v e)) ≤ 16384
+at-most k v e stages n = whole-at-most k v e stages (simp length-take (omega arith))
+
 module _ (k : Key) (v : Variant) (e : Entry) (stages : length (k .stages) ≤ 8) where
-  bounded : length (nameOf e) ≤ 32 → length (textOf k v e) ≤ 16384
-  unfolding wholeText
-  bounded n =
-      let ss = active (k .stages) in
-      omega (
-        arith,
-        flat-length (wholeText k v e),
-        size-most (wholeText k v e),
-        front-le v,
-        body-le k v ss (le-trans (active-short (k .stages)) stages),
-      )
-
-  pub at-most : length (e .name) ≤ 32 → length (textOf k v e) ≤ 16384
-  at-most n = bounded (simp length-take (omega arith))
-
   pub good-at-most : T (entryGood e) → length (textOf k v e) ≤ 16384
   unfolding entryGood
-  good-at-most g = let l = leb→le (e .len) 32 (and-fst (leb (e .len) 32) _ g) in bounded (simp length-take (omega arith))
+  good-at-most g =
+      let l = leb→le (e .len) 32 (and-fst (leb (e .len) 32) _ g) in
+      whole-at-most (effective k) v e (omega (arith, stages, effective-length k)) (simp length-take (omega arith))
 
   -- A buffer of n bytes, no fewer, takes every text: 8 is not answered there.
   module _ (n : ℕ) (h : 16384 ≤ n) where

@@ -7,7 +7,7 @@ use mathlib.Core.Path.{_≡_}
 use mathlib.Core.List.{List, [], _∷_, _++_}
 use lib.Dec.{eqb}
 use lib.ListN.{take}
-use Rattle.cascade.specs.Keys.{active}
+use Rattle.cascade.specs.Effective.{activeStages}
 use Rattle.cascade.specs.Reading.{live, lookupsOf}
 use Rattle.values.specs.Listed.{Name, name}
 use Rattle.shader.specs.Names.{Occurrence, declaration, usage, row, occurrences}
@@ -44,7 +44,7 @@ setBits (suc n) m = m % 2 + setBits n (m / 2)
 
 -- how many active stages the reading rule marks
 abbrev pub markedStages : Key → ℕ
-markedStages k = lookupsOf (live (active (k .stages))) (active (k .stages))
+markedStages k = lookupsOf (live (activeStages k)) (activeStages k)
 
 pub record Demand3 (key : Key) (text : List ℕ) (m : Emitted) : Type 0 where
   -- before each use of a listed name stands exactly one declaration of it

@@ -7,7 +7,8 @@ use lib.ListN.{length, take, drop}
 use Rattle.text.specs.Text.{flat}
 use Rattle.combiners.specs.Codes.{always}
 use Rattle.combiners.specs.Warnings.{opCause, selectorCause, modifierCause}
-use Rattle.cascade.specs.Keys.{active, maskOf, rowsOf}
+use Rattle.cascade.specs.Keys.{maskOf, rowsOf}
+use Rattle.cascade.specs.Effective.{activeStages, effective}
 use Rattle.cascade.specs.Reading.{live, lookupsOf}
 use Rattle.cascade.specs.Warnings.{warnedStages}
 use Rattle.values.specs.declared.Key.{Key}
@@ -25,7 +26,7 @@ use Rattle.values.specs.declared.Answer.the-variants.{Text, Refused}
 
 -- the bytes of the text
 abbrev pub textOf : Key → Variant → Entry → List ℕ
-textOf k v e = flat (wholeText k v e)
+textOf k v e = flat (wholeText (effective k) v e)
 
 -- 01: "alpha function above 8"
 abbrev pub alphaWarning : Variant → Bool
@@ -35,12 +36,12 @@ abbrev pub emittedOf : Key → Variant → Entry → Emitted
 emittedOf k v e =
     record {
       length = length (textOf k v e);
-      mask = maskOf (active (k .stages));
-      rows = rowsOf (active (k .stages));
-      lookups = lookupsOf (live (active (k .stages))) (active (k .stages));
-      «op_warnings» = warnedStages opCause (active (k .stages));
-      «selector_warnings» = warnedStages selectorCause (active (k .stages));
-      «modifier_warnings» = warnedStages modifierCause (active (k .stages));
+      mask = maskOf (activeStages k);
+      rows = rowsOf (activeStages k);
+      lookups = lookupsOf (live (activeStages k)) (activeStages k);
+      «op_warnings» = warnedStages opCause (activeStages k);
+      «selector_warnings» = warnedStages selectorCause (activeStages k);
+      «modifier_warnings» = warnedStages modifierCause (activeStages k);
       «alpha_warning» = alphaWarning v;
     }
 

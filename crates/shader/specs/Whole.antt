@@ -116,5 +116,6 @@ bodyText k v ss =
     ⊕ stagesText v (k .projected) (live ss) Ordinary 0 ss
     ⊕ outputText (k .«specular_add») v
 
+-- the text of a key with the stages that take effect
 unfoldable pub wholeText : Key → Variant → Entry → Text
 wholeText k v e = frontText v ⊕ raw (nameOf e) ⊕ bodyText k v (active (k .stages))

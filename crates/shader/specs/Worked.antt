@@ -1,4 +1,5 @@
--- The worked stages of 01, Z1 to Z9, and W1 to W6 for 02's warnings by stage: for each a key, a variant and what is named of the text and the result.
+-- The worked stages of 01, Z1 to Z9, W1 to W6 for 02's warnings by stage, and N1 to N11 for its stages of three operands: for each a key, a variant and
+-- what is named of the text and the result.
 -- 01: "Unless said otherwise: stage 0, no texture, result CURRENT, alpha op 1, unnamed arguments 0, every other stage op 1."
 use Prim.Native.Nat.{ℕ, zero, suc}
 use Prim.Native.Char.{code}
@@ -9,6 +10,8 @@ use lib.Dec.{eqb}
 use lib.ListN.{replicate}
 use Rattle.text.specs.Text.{bytes}
 use Rattle.text.specs.Format.{same}
+use Rattle.values.specs.Kinds.{defaultArg0}
+use Rattle.values.specs.declared.Combiner.{Combiner}
 use Rattle.values.specs.declared.Stage.{Stage}
 use Rattle.values.specs.declared.Key.{Key}
 use Rattle.values.specs.declared.Variant.{Variant}
@@ -28,15 +31,31 @@ pub record Worked : Type 0 where
   pub name : String
   pub stages : List Stage
   pub alphaFunc : ℕ
+  pub wide : Bool
   pub named : List Named
+
+-- an op with its arguments 1, 2 and 0
+abbrev pub ofThree : ℕ → ℕ → ℕ → ℕ → Combiner
+ofThree op a b z = record { op = op; arg1 = a; arg2 = b; arg0 = z }
+
+abbrev pub ofTwo : ℕ → ℕ → ℕ → Combiner
+ofTwo op a b = ofThree op a b defaultArg0
 
 -- a stage by its colour op, its arguments and its flags
 abbrev pub stage : ℕ → ℕ → ℕ → ℕ → Stage
-stage op a b flags = record { colour = record { op = op; arg1 = a; arg2 = b }; alpha = record { op = 1; arg1 = 0; arg2 = 0 }; flags = flags }
+stage op a b flags = record { colour = ofTwo op a b; alpha = ofTwo 1 0 0; flags = flags }
+
+-- a stage by its colour op, its arguments 1, 2 and 0, and its flags
+abbrev pub stageOfThree : ℕ → ℕ → ℕ → ℕ → ℕ → Stage
+stageOfThree op a b z flags = record { colour = ofThree op a b z; alpha = ofTwo 1 0 0; flags = flags }
+
+-- a stage whose colour is `in.color0`, by its alpha op and arguments 1, 2 and 0
+abbrev pub alphaOfThree : ℕ → ℕ → ℕ → ℕ → Stage
+alphaOfThree op a b z = record { colour = ofTwo 2 0 0; alpha = ofThree op a b z; flags = 0 }
 
 -- a stage whose bytes are 0 but for its colour op
 abbrev pub bare : ℕ → Stage
-bare op = record { colour = record { op = op; arg1 = 0; arg2 = 0 }; alpha = record { op = 0; arg1 = 0; arg2 = 0 }; flags = 0 }
+bare op = record { colour = ofTwo op 0 0; alpha = ofTwo 0 0 0; flags = 0 }
 
 -- n stages, the first of them as given and the others alike
 abbrev pub padded : ℕ → Stage → List Stage → List Stage
@@ -46,7 +65,11 @@ padded (suc n) s (t ∷ ss) = t ∷ padded n s ss
 
 -- a line of the table, by the stages in front of those with op 1 and by the alpha function
 abbrev pub line : String → List Stage → ℕ → List Named → Worked
-line name ss f named = record { name = name; stages = padded 8 (stage 1 0 0 0) ss; alphaFunc = f; named = named }
+line name ss f named = record { name = name; stages = padded 8 (stage 1 0 0 0) ss; alphaFunc = f; wide = false; named = named }
+
+-- a line for a key of kind 6, by its first stage
+abbrev pub wideLine : String → Stage → List Named → Worked
+wideLine name s named = record { name = name; stages = padded 8 (stage 1 0 0 0) (s ∷ []); alphaFunc = 0; wide = true; named = named }
 
 abbrev pub z1Lines : List String
 z1Lines =
@@ -96,6 +119,7 @@ z1 =
       name = "Z1";
       stages = padded 8 (bare 0) (bare 1 ∷ []);
       alphaFunc = 0;
+      wide = false;
       named = whole z1Lines ∷ mask 0 ∷ rows 0 ∷ lookups 0 ∷ warnings 0 0 0 false ∷ [];
     }
 
@@ -121,10 +145,26 @@ table =
     ∷ line "W4, fallback" (stage 17 2 0x4f 0 ∷ []) 0 (warnings 0 0 0 false ∷ [])
     ∷ line "W5, bump stage" (stage 22 0x4f 0x4f 1 ∷ []) 0 (warnings 0 0 0 false ∷ [])
     ∷ line "W6, function 9" [] 9 (warnings 0 0 0 true ∷ [])
+    ∷ wideLine "N1, LERP by the texel" (stageOfThree 26 0 1 2 1)
+    (part "    current = float4(((t0 * in.color0 + (1.0 - t0) * current)).rgb, (current).a);\n" ∷ mask 1 ∷ lookups 1 ∷ warnings 0 0 0 false ∷ [])
+    ∷ wideLine "N2, MULTIPLYADD to a constant" (stageOfThree 25 0 4 6 0)
+    (part "    current = float4((saturate(ps_c[1] + in.color0 * in.color1)).rgb, (current).a);\n" ∷ rows 2 ∷ warnings 0 0 0 false ∷ [])
+    ∷ wideLine "N3, LERP by what TEMP leaves of 1" (stageOfThree 26 0 1 0x15 0)
+    (part "    float4 temp = float4(0.0);\n" ∷ part "((1.0 - temp) * in.color0 + (1.0 - (1.0 - temp)) * current)" ∷ [])
+    ∷ wideLine "N4, fallback by argument 0" (stageOfThree 26 0 4 2 0)
+    (part "    current = float4((current).rgb, (current).a);\n" ∷ rows 0 ∷ lookups 0 ∷ warnings 0 0 0 false ∷ [])
+    ∷ wideLine "N5, the factor" (stageOfThree 25 0 4 3 0) (rows 1 ∷ [])
+    ∷ wideLine "N6, the factor in a fallback" (stageOfThree 26 2 4 3 0) (rows 1 ∷ [])
+    ∷ wideLine "N7, alpha" (alphaOfThree 25 0 1 6) (part "    current = float4((in.color0).rgb, (saturate(ps_c[1] + in.color0 * current)).a);\n" ∷ rows 2 ∷ [])
+    ∷ wideLine "N8, warnings of argument 0" (stageOfThree 25 0 4 0x4f 0) (warnings 0 1 1 false ∷ [])
+    ∷ wideLine "N9, another op" (stageOfThree 4 0 4 0x46 0) (rows 0 ∷ warnings 0 0 0 false ∷ [])
+    ∷ wideLine "N10, another op without a text" (stageOfThree 17 0 5 3 0) (rows 0 ∷ lacks "temp" ∷ warnings 1 0 0 false ∷ [])
+    ∷ line "N11, kind 1" (stageOfThree 26 0 5 3 0 ∷ []) 0
+    (part "    current = float4((in.color0).rgb, (current).a);\n" ∷ lacks "temp" ∷ rows 0 ∷ warnings 1 0 0 false ∷ [])
     ∷ []
 
 abbrev pub workedKey : Worked → Key
-workedKey w = record { stages = w .stages; «specular_add» = false; projected = 0 }
+workedKey w = record { stages = w .stages; «specular_add» = false; projected = 0; wide = w .wide }
 
 abbrev pub workedVariant : Worked → Variant
 workedVariant w =

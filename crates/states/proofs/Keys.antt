@@ -1,7 +1,8 @@
 -- A key after one write: what it holds then for each stage and type, and what the write leaves.
 use Prim.Native.Nat.{ℕ, _<_, _/_}
 use mathlib.Core.Path.{_≡_, refl, sym, ap, _∙_}
-use mathlib.Core.Bool.{Bool, true, false, _&&_, cond}
+use mathlib.Core.Bool.{Bool, true, false, _&&_, _||_, or-false, cond}
+use mathlib.Core.List.{List}
 use native.Mathlib.Omega.{arith}
 use borrow.Author.Tests.{eqb-true, eqb-false}
 use lib.Dec.{eqb}
@@ -11,20 +12,22 @@ use Rattle.values.specs.declared.Stage.{Stage}
 use Rattle.values.specs.declared.Key.{Key}
 use Rattle.values.specs.declared.StateWrite.{StateWrite}
 use Rattle.values.specs.Flags.{stageFlagsBad}
-use Rattle.states.specs.States.{defaultStage, defaults, getState, setStage, setState, stageAt, stageState}
-use Rattle.states.specs.Writes.{accepted, writes, writeApplied}
+use Rattle.states.specs.Types.{alphaArg0, colourArg0, setsArg0}
+use Rattle.values.specs.Kinds.{sevenBytes}
+use Rattle.states.specs.States.{defaultStage, defaults, getState, setStage, setState, stageIn, stageState, stagesFor, wideStages}
+use Rattle.states.specs.Writes.{accepted, widens, writes, writeApplied}
 use Rattle.states.proofs.Bits.{flags-after}
-use Rattle.states.proofs.Stages.{no-spare, spare-free, stage-after}
+use Rattle.states.proofs.Stages.{neither, no-spare, spare-free, stage-after}
+use Rattle.states.proofs.Widening.{for-length, setIn, wide-after, wide-length, wide-stage}
 use Rattle.states.proofs.Accepted.{Accepted, free}
 
 -- stage j after a write at stage i
-pub stage-at : (i j t v : ℕ) (k : Key) → i < length (k .stages) → stageAt j (setState i t v k) ≡ cond (eqb i j) (setStage t v (stageAt j k)) (stageAt j k)
-unfolding setState
-stage-at i j t v k h = go (eqb i j) refl
+stage-after-set : (i j t v : ℕ) (l : List Stage) → i < length l → stageIn j (setIn i t v l) ≡ cond (eqb i j) (setStage t v (stageIn j l)) (stageIn j l)
+stage-after-set i j t v l h = go (eqb i j) refl
   where
-    go : (b : Bool) → eqb i j ≡ b → stageAt j (setState i t v k) ≡ cond b (setStage t v (stageAt j k)) (stageAt j k)
-    go true e = let z = eqb-true i j e in rw (← z) (getD-set-same (k .stages) i (setStage t v (stageAt i k)) (defaultStage 1 1) h)
-    go false e = getD-set-other (k .stages) i j (setStage t v (stageAt i k)) (defaultStage 1 1) (λ z. eqb-false i j e (sym z))
+    go : (b : Bool) → eqb i j ≡ b → stageIn j (setIn i t v l) ≡ cond b (setStage t v (stageIn j l)) (stageIn j l)
+    go true e = let z = eqb-true i j e in rw (← z) (getD-set-same l i (setStage t v (stageIn i l)) (defaultStage 1 1) h)
+    go false e = getD-set-other l i j (setStage t v (stageIn i l)) (defaultStage 1 1) (λ z. eqb-false i j e (sym z))
 
 -- one write that is accepted, and one that may be refused
 pub one-set : (w : StateWrite) (k : Key) → length (k .stages) ≡ 8 → accepted w ≡ true → (i t : ℕ)
@@ -32,12 +35,14 @@ pub one-set : (w : StateWrite) (k : Key) → length (k .stages) ≡ 8 → accept
 unfolding getState
 one-set w k eight e i t =
     let a = free w e in
-    ap (stageState t) (stage-at (w .stage) i (w .state) (w .value) k (omega (arith, a .stage))) ∙ go (eqb (w .stage) i) a
+    let below : w .stage < length (wideStages k) = omega (arith, a .stage, wide-length k) in
+    ap (λ (l : List Stage). stageState t (stageIn i l)) (wide-after (w .stage) (w .state) (w .value) k)
+    ∙ ap (stageState t) (stage-after-set (w .stage) i (w .state) (w .value) (wideStages k) below) ∙ go (eqb (w .stage) i) a
   where
     go : (b : Bool) → Accepted w
-        → stageState t (cond b (setStage (w .state) (w .value) (stageAt i k)) (stageAt i k))
-        ≡ cond (b && eqb (w .state) t) (w .value) (stageState t (stageAt i k))
-    go true a = stage-after (w .state) (w .value) (stageAt i k) (a .state) (a .value) t
+        → stageState t (cond b (setStage (w .state) (w .value) (stageIn i (wideStages k))) (stageIn i (wideStages k)))
+        ≡ cond (b && eqb (w .state) t) (w .value) (stageState t (stageIn i (wideStages k)))
+    go true a = stage-after (w .state) (w .value) (stageIn i (wideStages k)) (a .state) (a .value) t
     go false a = refl
 
 pub one-written : (w : StateWrite) (k : Key) → length (k .stages) ≡ 8 → (i t : ℕ)
@@ -49,27 +54,75 @@ one-written w k eight i t = go (accepted w) refl
     go true e = rw e (one-set w k eight e i t)
     go false e = rw e
 
+-- a write of an argument 0 makes the key one of kind 6, and every other leaves the kind
+pub one-kind : (w : StateWrite) (k : Key) → writeApplied w k .wide ≡ (k .wide || widens w)
+unfolding writeApplied setState
+one-kind w k = go (accepted w)
+  where
+    go : (b : Bool) → cond b (setState (w .stage) (w .state) (w .value) k) k .wide ≡ (k .wide || (b && setsArg0 (w .state)))
+    go true = refl
+    go false = sym (or-false (k .wide))
+
 -- the bits of a stage's flags that no type reaches
 abbrev pub spare : ℕ → Key → ℕ
-spare i k = stageAt i k .flags / 4
+spare i k = stageIn i (k .stages) .flags / 4
 
-spare-set : (w : StateWrite) (k : Key) → length (k .stages) ≡ 8 → accepted w ≡ true → (i : ℕ)
-    → spare i (setState (w .stage) (w .state) (w .value) k) ≡ spare i k
-unfolding setStage
-spare-set w k eight e i =
-    let a = free w e in
-    ap (λ (s : Stage). s .flags / 4) (stage-at (w .stage) i (w .state) (w .value) k (omega (arith, a .stage))) ∙ go (eqb (w .stage) i) a
-  where
-    go : (b : Bool) → Accepted w → cond b (setStage (w .state) (w .value) (stageAt i k)) (stageAt i k) .flags / 4 ≡ stageAt i k .flags / 4
-    go true a = flags-after (w .state) (w .value) (stageAt i k .flags) (a .value) .rest
-    go false a = refl
+-- what stands in the places of arguments 0, which no type reaches in a kind 1 key
+abbrev pub arguments0 : Stage → ℕ × ℕ
+arguments0 s = (s .colour .arg0, s .alpha .arg0)
 
--- what a write leaves: the number of stages, and all that no type reaches
+abbrev pub unread : ℕ → Key → ℕ × ℕ
+unread i k = arguments0 (stageIn i (k .stages))
+
+module _ (w : StateWrite) (k : Key) (eight : length (k .stages) ≡ 8) (e : accepted w ≡ true) (i : ℕ) where
+  a : Accepted w
+  a = free w e
+
+  written : stageIn i (setState (w .stage) (w .state) (w .value) k .stages)
+      ≡ cond (eqb (w .stage) i) (setStage (w .state) (w .value) (stageIn i (stagesFor (w .state) k))) (stageIn i (stagesFor (w .state) k))
+  unfolding setState
+  written = stage-after-set (w .stage) i (w .state) (w .value) (stagesFor (w .state) k) (omega (arith, a .stage, for-length (w .state) k))
+
+  flags-for : stageIn i (stagesFor (w .state) k) .flags ≡ stageIn i (k .stages) .flags
+  flags-for = go (setsArg0 (w .state))
+    where
+      kind : (wide : Bool) → cond wide (stageIn i (k .stages)) (sevenBytes (stageIn i (k .stages))) .flags ≡ stageIn i (k .stages) .flags
+      kind true = refl
+      kind false = refl
+
+      go : (b : Bool) → stageIn i (cond b (wideStages k) (k .stages)) .flags ≡ stageIn i (k .stages) .flags
+      go true = ap (λ (s : Stage). s .flags) (wide-stage i k) ∙ kind (k .wide)
+      go false = refl
+
+  spare-set : spare i (setState (w .stage) (w .state) (w .value) k) ≡ spare i k
+  unfolding setStage
+  spare-set = ap (λ (s : Stage). s .flags / 4) written ∙ go (eqb (w .stage) i) ∙ ap (λ (f : ℕ). f / 4) flags-for
+    where
+      go : (b : Bool)
+          → cond b (setStage (w .state) (w .value) (stageIn i (stagesFor (w .state) k))) (stageIn i (stagesFor (w .state) k)) .flags / 4
+          ≡ stageIn i (stagesFor (w .state) k) .flags / 4
+      go true = flags-after (w .state) (w .value) (stageIn i (stagesFor (w .state) k) .flags) (a .value) .rest
+      go false = refl
+
+  unread-set : setsArg0 (w .state) ≡ false → unread i (setState (w .stage) (w .state) (w .value) k) ≡ unread i k
+  unfolding setStage
+  unread-set f =
+      let n = neither (eqb (w .state) colourArg0) (eqb (w .state) alphaArg0) f in
+      ap arguments0 written ∙ rw f (go (eqb (w .stage) i) n)
+    where
+      go : (b : Bool) → (eqb (w .state) colourArg0 ≡ false) × (eqb (w .state) alphaArg0 ≡ false)
+          → arguments0 (cond b (setStage (w .state) (w .value) (stageIn i (k .stages))) (stageIn i (k .stages))) ≡ unread i k
+      go true n = rw (n .0, n .1)
+      go false n = refl
+
+-- what a write leaves: the number of stages, and all that no type reaches; and it turns no key to kind 1
 pub record Kept (k l : Key) : Type 0 where
   pub stages : length (l .stages) ≡ length (k .stages)
   pub spared : (i : ℕ) → spare i l ≡ spare i k
   pub specular : l .«specular_add» ≡ k .«specular_add»
   pub projected : l .projected ≡ k .projected
+  pub kind : l .wide ≡ false → k .wide ≡ false
+  pub unread : l .wide ≡ false → (i : ℕ) → unread i l ≡ unread i k
 
 pub kept : (w : StateWrite) (k : Key) → length (k .stages) ≡ 8 → Kept k (writeApplied w k)
 unfolding writeApplied setState
@@ -78,12 +131,14 @@ kept w k eight = go (accepted w) refl
     go : (b : Bool) → accepted w ≡ b → Kept k (cond b (setState (w .stage) (w .state) (w .value) k) k)
     go true e =
         record {
-          stages = length-set (k .stages) (w .stage) (setStage (w .state) (w .value) (stageAt (w .stage) k));
+          stages = length-set (stagesFor (w .state) k) (w .stage) _ ∙ for-length (w .state) k;
           spared = spare-set w k eight e;
           specular = refl;
           projected = refl;
+          kind = λ n. neither (k .wide) (setsArg0 (w .state)) n .0;
+          unread = λ n i. unread-set w k eight e i (neither (k .wide) (setsArg0 (w .state)) n .1);
         }
-    go false e = record { stages = refl; spared = λ i. refl; specular = refl; projected = refl }
+    go false e = record { stages = refl; spared = λ i. refl; specular = refl; projected = refl; kind = λ n. n; unread = λ n i. refl }
 
 -- so a key that is free of cause 3 stays so
 pub flags-kept : (w : StateWrite) (k : Key) → length (k .stages) ≡ 8 → stageFlagsBad (k .stages) ≡ false → stageFlagsBad (writeApplied w k .stages) ≡ false

@@ -1,7 +1,10 @@
 pub mod Bits
 pub mod Stages
+pub mod Widening
 pub mod Accepted
 pub mod Keys
 pub mod LastWritten
 pub mod Determined
+pub mod SameLast
+pub mod Rearranged
 pub mod Worked

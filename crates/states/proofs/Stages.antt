@@ -19,7 +19,7 @@ getD-there [] i d e h = absurd (omega arith)
 getD-there (s ∷ l) zero d e h = refl
 getD-there (s ∷ l) (suc i) d e h = getD-there l i d e (omega arith)
 
-neither : (a b : Bool) → (a || b) ≡ false → (a ≡ false) × (b ≡ false)
+pub neither : (a b : Bool) → (a || b) ≡ false → (a ≡ false) × (b ≡ false)
 neither true b e = absurd (true≢false e)
 neither false b e = (refl, e)
 

@@ -1,6 +1,6 @@
 -- The types of texture stage states, and the values that each takes.
 -- 02, One: "Types are Direct3D 9's 1 to 6 (colour op, its two arguments, alpha op, its two arguments) and 28 (result, value 1 or 5), and our 0
--- (texture bound, 0 or 1)."
+-- (texture bound, 0 or 1)." 02, Nine: "Types 26 and 27 of request One, no longer 11", are argument 0 of colour and of alpha.
 use Prim.Native.Nat.{ℕ}
 use mathlib.Core.Bool.{Bool, false, _||_, cond}
 use mathlib.Core.List.{List, [], _∷_}
@@ -28,13 +28,20 @@ alphaArg2 = 6
 abbrev pub resultArg : ℕ
 resultArg = 28
 
+abbrev pub colourArg0 : ℕ
+colourArg0 = 26
+
+abbrev pub alphaArg0 : ℕ
+alphaArg0 = 27
+
 -- ours
 abbrev pub textureBound : ℕ
 textureBound = 0
 
 -- the types
 abbrev pub stateTypes : List ℕ
-stateTypes = colourOp ∷ colourArg1 ∷ colourArg2 ∷ alphaOp ∷ alphaArg1 ∷ alphaArg2 ∷ resultArg ∷ textureBound ∷ []
+stateTypes =
+    colourOp ∷ colourArg1 ∷ colourArg2 ∷ alphaOp ∷ alphaArg1 ∷ alphaArg2 ∷ resultArg ∷ textureBound ∷ colourArg0 ∷ alphaArg0 ∷ []
 
 abbrev pub among : ℕ → List ℕ → Bool
 among t [] = false
@@ -42,6 +49,10 @@ among t (u ∷ r) = eqb t u || among t r
 
 abbrev pub isType : ℕ → Bool
 isType t = among t stateTypes
+
+-- the types that only a key of kind 6 has
+abbrev pub setsArg0 : ℕ → Bool
+setsArg0 t = eqb t colourArg0 || eqb t alphaArg0
 
 -- a value that a type takes: for 28 and 0 one of "those named", for the others a byte
 abbrev pub takes : ℕ → ℕ → Bool

@@ -1,7 +1,7 @@
 -- Writes of states: which are turned away, what one does to a key, and what a list of them does.
 use Prim.Native.Nat.{ℕ}
 use mathlib.Core.Path.{_≡_}
-use mathlib.Core.Bool.{Bool, not, _&&_, cond}
+use mathlib.Core.Bool.{Bool, false, not, _&&_, _||_, cond}
 use mathlib.Core.List.{List, [], _∷_}
 use mathlib.Core.Option.{Option, some, none, orElse, Option·getD}
 use lib.Dec.{eqb, ltb}
@@ -13,7 +13,7 @@ use Rattle.values.specs.declared.Refusal.the-variants.{StageNumber, StateType, 
 use Rattle.values.specs.Refusals.{numberOf}
 use Rattle.states.specs.declared.StateAnswer.{StateAnswer}
 use Rattle.states.specs.declared.StateAnswer.the-variants.{Value, Refused}
-use Rattle.states.specs.Types.{isType, takes}
+use Rattle.states.specs.Types.{isType, setsArg0, takes}
 use Rattle.states.specs.States.{getState, setState}
 
 -- 02, One: "10, stage above 7; 11, another type; 12, value above 255 or, for types 28 and 0, none of those named; in that order"; 0 where the write
@@ -58,6 +58,18 @@ lastWritten i t (w ∷ r) = orElse (lastWritten i t r) (cond (writes w i t) (som
 -- records/proofs/Writes for the records of the list, handed over one by one.
 abbrev pub LastWritten : List StateWrite → Key → Type 0
 LastWritten ws k = (i t : ℕ) → getState i t (writesApplied ws k) ≡ Option·getD (lastWritten i t ws) (getState i t k)
+
+-- the write is accepted, and is one of type 26 or 27
+abbrev pub widens : StateWrite → Bool
+widens w = accepted w && setsArg0 (w .state)
+
+unfoldable pub anyWidens : List StateWrite → Bool
+anyWidens [] = false
+anyWidens (w ∷ r) = widens w || anyWidens r
+
+-- The kind. 02, Nine: types 26 and 27 "make the key a kind 6 key"; "other writes leave a key's kind". It is `kind-written` of proofs/LastWritten.
+abbrev pub KindWritten : List StateWrite → Key → Type 0
+KindWritten ws k = writesApplied ws k .wide ≡ (k .wide || anyWidens ws)
 
 -- what is answered for a stage and a type of a key: the state, or 10 or 11 as for a write
 unfoldable pub gotState : Key → ℕ → ℕ → StateAnswer

@@ -4,3 +4,4 @@ pub mod Entries
 pub mod Admitted
 pub mod Listed
 pub mod Words
+pub mod Kinds

@@ -2,25 +2,28 @@
 ghost use mathlib.Core.Path.{_≡_};
 ghost use Rattle.values.specs.Refusals.{numberOf};
 
-// An op and its two arguments, in Direct3D 9's codes.
+// An op and its arguments, in Direct3D 9's codes. Only ops of three operands have an argument 0.
 pub struct Combiner {
     pub op: u8,
     pub arg1: u8,
     pub arg2: u8,
+    pub arg0: u8,
 }
 
-// A texture stage: seven bytes. Flag bit 0: a texture is bound; bit 1: the result goes to TEMP.
+// A texture stage. Flag bit 0: a texture is bound; bit 1: the result goes to TEMP.
 pub struct Stage {
     pub colour: Combiner,
     pub alpha: Combiner,
     pub flags: u8,
 }
 
-// Bit i of projected is for stage i.
+// Bit i of projected is for stage i. A wide key, of record kind 6, has stages of nine bytes, with argument 0 of colour and of alpha; in another, of
+// kind 1 with stages of seven, no op has an argument 0.
 pub struct Key {
     pub stages: [Stage; 8],
     pub specular_add: bool,
     pub projected: u8,
+    pub wide: bool,
 }
 
 // The render states beside the key that shape the text. Masks have bit i for stage i.

@@ -1,6 +1,6 @@
 -- What was read, by cases: a refusal with its number, or a record of one of the kinds with all that is known of it.
 use mathlib.Core.Path.{_≡_, refl, sym, ap, _∙_}
-use mathlib.Core.Bool.{Bool, cond}
+use mathlib.Core.Bool.{Bool, true, false, cond}
 use mathlib.Core.List.{List, [], _∷_, _++_}
 use Prim.Native.Nat.{ℕ, suc, _≤_}
 use native.Mathlib.Omega.{arith}
@@ -17,11 +17,13 @@ use Rattle.values.specs.declared.Key.{Key}
 use Rattle.values.specs.declared.Variant.{Variant}
 use Rattle.values.specs.declared.Entry.{Entry}
 use Rattle.values.specs.declared.StateWrite.{StateWrite}
+use Rattle.states.specs.States.{wideStages}
 use Rattle.states.specs.declared.Checked.{Checked}
 use Rattle.states.proofs.Accepted.{check-cases}
-use Rattle.wire.specs.Bodies.{kindByte, bodyLength, recordLength, specularByte, keyFromBody, variantFromBody, entryFromBody, stateFromBody, bodyBytes, recordBytes}
+use Rattle.wire.specs.Bodies.{kindByte, keyKind, bodyLength, recordLength, specularByte, bodyBytes, recordBytes}
+use Rattle.wire.specs.Bodies.{keyFromBody, variantFromBody, entryFromBody, stateFromBody}
 use Rattle.wire.specs.Values.{keyRecord, variantRecord, entryRecord, emitRecord, stateRecord}
-use Rattle.wire.specs.Reading.{byKind, refused, took, tookIf, readBody, readAs, readRecord, readNumber, bodyNumber, recordNumber}
+use Rattle.wire.specs.Reading.{byKind, refused, took, tookIf, readKey, readBody, readAs, readRecord, readNumber, keyNumber, bodyNumber, recordNumber}
 use Rattle.wire.specs.declared.Kind.{Kind}
 use Rattle.wire.specs.declared.Kind.the-variants as kind
 use Rattle.wire.specs.declared.Record.{Record}
@@ -29,7 +31,7 @@ use Rattle.wire.specs.declared.ReadAnswer.the-variants.{Took}
 use Rattle.wire.specs.declared.Reading.{Reading}
 use Rattle.wire.proofs.Laws.{either}
 use Rattle.wire.proofs.Bodies.{Shaped, Bytes, Free, key-shaped, variant-shaped, entry-shaped, emit-shaped, state-shaped, stages-count, name-length}
-use Rattle.wire.proofs.Bodies.{key-again, variant-again, entry-again, state-again}
+use Rattle.wire.proofs.Bodies.{key-free, key-body, key-settled, key-again, variant-again, entry-again, state-again}
 
 -- what is known of the record that was taken from the front of b
 pub record Taken (b : List ℕ) (r : Record) : Type 0 where
@@ -40,10 +42,10 @@ pub record Taken (b : List ℕ) (r : Record) : Type 0 where
   pub free : Free (r .kind) r
   pub bytes : Bytes b → recordBytes r ≡ take (recordLength (r .kind)) b
 
--- P of a refusal, and P of a record of each kind
+-- P of a refusal, and P of a record of each kind; a key is of either kind, and what its kind has of it
 pub record Cases (P : Reading → Type 0) (b : List ℕ) : Type 0 where
   pub refusal : (c : Refusal) → recordNumber b ≡ numberOf c → P (refused c)
-  pub key : (k : Key) → Taken b (keyRecord k) → P (took (keyRecord k))
+  pub key : (k : Key) → wideStages k ≡ k .stages → Taken b (keyRecord k) → P (took (keyRecord k))
   pub variant : (v : Variant) → Taken b (variantRecord v) → P (took (variantRecord v))
   pub entry : (e : Entry) → Taken b (entryRecord e) → P (took (entryRecord e))
   pub emit : Taken b emitRecord → P (took emitRecord)
@@ -57,7 +59,8 @@ by-kind Q x f u g v p q =
     either Q (eqb x 2) _ _ _ _ (λ e. p kind.Variant (eqb-true _ _ e)) (λ _.
     either Q (eqb x 3) _ _ _ _ (λ e. p kind.Entry (eqb-true _ _ e)) (λ _.
     either Q (eqb x 4) _ _ _ _ (λ e. p kind.Emit (eqb-true _ _ e)) (λ _.
-    either Q (eqb x 5) _ _ _ _ (λ e. p kind.State (eqb-true _ _ e)) (λ _. q)))))
+    either Q (eqb x 5) _ _ _ _ (λ e. p kind.State (eqb-true _ _ e)) (λ _.
+    either Q (eqb x 6) _ _ _ _ (λ e. p kind.WideKey (eqb-true _ _ e)) (λ _. q))))))
 
 -- what is known of a record whose body stands at the front of b
 taken : (x : ℕ) (b : List ℕ) (r : Record) → recordNumber (x ∷ b) ≡ 0 → x ≡ kindByte (r .kind) → bodyLength (r .kind) ≤ length b →
@@ -70,13 +73,18 @@ module _ (P : Reading → Type 0) (x : ℕ) (b : List ℕ) (cases : Cases P (x �
   abbrev Q : ℕ → Reading → Type 0
   Q n r = recordNumber (x ∷ b) ≡ n → P r
 
+  key-cases : (wide : Bool) → x ≡ kindByte (keyKind wide) → bodyLength (keyKind wide) ≤ length b → Q (keyNumber wide b) (readKey wide b)
+  unfolding bodyBytes keyFromBody
+  key-cases wide e h =
+      let k = keyFromBody wide b in
+      either Q (stageFlagsBad (k .stages)) _ _ _ _ (λ _. cases .refusal StageFlags) (λ f.
+      either Q (ltb 1 (specularByte wide b)) _ _ _ _ (λ _. cases .refusal SpecularAdd) (λ s n.
+      cases .key k (key-settled wide b)
+      (taken x b (keyRecord k) n e h (key-shaped k (stages-count wide 8 b)) (key-free k f) (λ w. key-body k ∙ key-again wide b h (ltb-false _ _ s)))))
+
   body-cases : (k : Kind) → x ≡ kindByte k → bodyLength k ≤ length b → Q (bodyNumber k b) (readBody k b)
-  unfolding bodyNumber readBody bodyBytes keyFromBody
-  body-cases kind.Key e h =
-      either Q (stageFlagsBad (keyFromBody b .stages)) _ _ _ _ (λ _. cases .refusal StageFlags) (λ f.
-      either Q (ltb 1 (specularByte b)) _ _ _ _ (λ _. cases .refusal SpecularAdd) (λ s n.
-      cases .key (keyFromBody b)
-      (taken x b (keyRecord (keyFromBody b)) n e h (key-shaped _ (stages-count 8 b)) f (λ w. key-again b h (ltb-false _ _ s)))))
+  unfolding bodyNumber readBody bodyBytes
+  body-cases kind.Key e h = key-cases false e h
   body-cases kind.Variant e h =
       either Q (variantFlagsBad (variantFromBody b)) _ _ _ _ (λ _. cases .refusal VariantFlags) (λ f n.
       cases .variant (variantFromBody b)
@@ -92,6 +100,7 @@ module _ (P : Reading → Type 0) (x : ℕ) (b : List ℕ) (cases : Cases P (x �
       check-cases (λ (a : Bool) (n : ℕ) (c : Checked). Q n (tookIf c (stateFromBody b))) (stateFromBody b) (λ c. cases .refusal c) (λ f n.
       cases .state (stateFromBody b)
       (taken x b (stateRecord (stateFromBody b)) n e h (state-shaped _) f (λ w. state-again b w h)))
+  body-cases kind.WideKey e h = key-cases true e h
 
   as-cases : (k : Kind) → x ≡ kindByte k → Q (cond (ltb (length b) (bodyLength k)) 1 (bodyNumber k b)) (readAs k b)
   unfolding readAs
@@ -111,7 +120,7 @@ read-either P b f g =
     read-cases P b
     (record {
       refusal = f;
-      key = λ k. g (keyRecord k);
+      key = λ k _. g (keyRecord k);
       variant = λ v. g (variantRecord v);
       entry = λ e. g (entryRecord e);
       emit = g emitRecord;

@@ -10,7 +10,7 @@ use lib.ListN.{length, take, drop, getD, set, length-drop}
 use lib.Seq.{append-snoc, drop-drop, getD-drop, take-all, take-suc, take-suc-set}
 use Rattle.values.specs.declared.Stage.{Stage}
 use Rattle.values.specs.declared.Refusal.the-variants.{CutShort, UnknownKind}
-use Rattle.wire.specs.Bodies.{kindByte, bodyLength, stageBytes, stagesBytes, stageFromBytes, stagesFromBytes}
+use Rattle.wire.specs.Bodies.{kindByte, bodyLength, stageSize, stageBytes, stagesBytes, stageFromBytes, stagesFromBytes}
 use Rattle.wire.specs.Reading.{byKind, refused, readBody, readAs, readRecord}
 use Rattle.wire.specs.declared.Kind.{Kind}
 use Rattle.wire.specs.declared.Kind.the-variants as kind
@@ -21,17 +21,26 @@ either Q true m n x y p q = p refl
 either Q false m n x y p q = q refl
 
 -- one more stage read
-pub stage-more : (b : List ℕ) (l : List Stage) (i m : ℕ) → i < length l →
-    take (i + 1) (set l i (stageFromBytes (drop (7 * i) b))) ++ stagesFromBytes m (drop (7 * (i + 1)) b) ≡ take i l ++ stagesFromBytes (suc m) (drop (7 * i) b)
-unfolding stagesFromBytes
-stage-more b l i m h =
-    let e : 7 * (i + 1) ≡ 7 * i + 7 = omega arith in rw (e, add-one, take-suc-set l i _ h, append-snoc, ← drop-drop 7 (7 * i) b)
+next-stage : (wide : Bool) (i : ℕ) → stageSize wide * (i + 1) ≡ stageSize wide * i + stageSize wide
+next-stage true i = omega arith
+next-stage false i = omega arith
 
--- all the stages read
-pub stages-done : (b : List ℕ) (l : List Stage) (i : ℕ) → i ≡ 8 → length l ≡ 8 →
-    take i l ++ stagesFromBytes (8 - i) (drop (7 * i) b) ≡ stagesFromBytes 8 b → l ≡ stagesFromBytes 8 b
+pub stage-more : (wide : Bool) (b : List ℕ) (l : List Stage) (i m : ℕ) → i < length l →
+    take (i + 1) (set l i (stageFromBytes wide (drop (stageSize wide * i) b))) ++ stagesFromBytes wide m (drop (stageSize wide * (i + 1)) b)
+    ≡ take i l ++ stagesFromBytes wide (suc m) (drop (stageSize wide * i) b)
 unfolding stagesFromBytes
-stages-done b l i e h k = sym (take-all 8 l (omega arith)) ∙ sym (append-nil (take 8 l)) ∙ rw e at k
+stage-more wide b l i m h =
+    rw (next-stage wide i, add-one, take-suc-set l i _ h, append-snoc, ← drop-drop (stageSize wide) (stageSize wide * i) b)
+
+-- none yet, and all the stages read
+pub stages-none : (wide : Bool) (b : List ℕ) → stagesFromBytes wide 8 (drop (stageSize wide * 0) b) ≡ stagesFromBytes wide 8 b
+stages-none true b = refl
+stages-none false b = refl
+
+pub stages-done : (wide : Bool) (b : List ℕ) (l : List Stage) (i : ℕ) → i ≡ 8 → length l ≡ 8 →
+    take i l ++ stagesFromBytes wide (8 - i) (drop (stageSize wide * i) b) ≡ stagesFromBytes wide 8 b → l ≡ stagesFromBytes wide 8 b
+unfolding stagesFromBytes
+stages-done wide b l i e h k = sym (take-all 8 l (omega arith)) ∙ sym (append-nil (take 8 l)) ∙ rw e at k
 
 -- one more byte of a name copied
 pub byte-more : (b l : List ℕ) (i : ℕ) → i < length l → i + 1 < length b → take i l ≡ take i (drop 1 b) →
@@ -45,15 +54,15 @@ pub name-done : (b l : List ℕ) (i : ℕ) → i ≡ 32 → length l ≡ 32 → 
 name-done b l i e h k = sym (take-all 32 l (omega arith)) ∙ rw e at k
 
 -- one more stage written
-stages-append : (x y : List Stage) → stagesBytes (x ++ y) ≡ stagesBytes x ++ stagesBytes y
+stages-append : (wide : Bool) (x y : List Stage) → stagesBytes wide (x ++ y) ≡ stagesBytes wide x ++ stagesBytes wide y
 unfolding stagesBytes
-stages-append [] y = refl
-stages-append (s ∷ x) y = rw (stages-append x y, append-assoc)
+stages-append wide [] y = refl
+stages-append wide (s ∷ x) y = rw (stages-append wide x y, append-assoc (stageBytes wide s) (stagesBytes wide x) (stagesBytes wide y))
 
-pub stage-bytes-more : (l : List Stage) (i : ℕ) (d : Stage) → i < length l →
-    stagesBytes (take i l) ++ stageBytes (getD l i d) ≡ stagesBytes (take (i + 1) l)
+pub stage-bytes-more : (wide : Bool) (l : List Stage) (i : ℕ) (d : Stage) → i < length l →
+    stagesBytes wide (take i l) ++ stageBytes wide (getD l i d) ≡ stagesBytes wide (take (i + 1) l)
 unfolding stagesBytes
-stage-bytes-more l i d h = rw (add-one, take-suc l i d h, stages-append, append-nil)
+stage-bytes-more wide l i d h = rw (add-one, take-suc l i d h, stages-append, append-nil)
 
 -- a body that is cut short, and one that is not
 pub read-short : (k : Kind) {n : ℕ} (b : List ℕ) → n ≡ bodyLength k → length b < n → refused CutShort ≡ readAs k b
@@ -74,10 +83,11 @@ known kind.Variant b e = rw e
 known kind.Entry b e = rw e
 known kind.Emit b e = rw e
 known kind.State b e = rw e
+known kind.WideKey b e = rw e
 
-pub unknown : {n : ℕ} (b : List ℕ) → (n ≡ 1 → ⊥) → (n ≡ 2 → ⊥) → (n ≡ 3 → ⊥) → (n ≡ 4 → ⊥) → (n ≡ 5 → ⊥) →
+pub unknown : {n : ℕ} (b : List ℕ) → (n ≡ 1 → ⊥) → (n ≡ 2 → ⊥) → (n ≡ 3 → ⊥) → (n ≡ 4 → ⊥) → (n ≡ 5 → ⊥) → (n ≡ 6 → ⊥) →
     refused UnknownKind ≡ byKind n (λ k. readAs k b) (refused UnknownKind)
-unknown b p q r s t = rw (ne-eqb _ _ p, ne-eqb _ _ q, ne-eqb _ _ r, ne-eqb _ _ s, ne-eqb _ _ t)
+unknown b p q r s t u = rw (ne-eqb _ _ p, ne-eqb _ _ q, ne-eqb _ _ r, ne-eqb _ _ s, ne-eqb _ _ t, ne-eqb _ _ u)
 
 -- no byte, and some
 pub read-none : (l : List ℕ) → length l ≤ 0 → refused CutShort ≡ readRecord l

@@ -1,18 +1,24 @@
 -- "Every record written reads back as itself; every record read writes back to its bytes."
 use mathlib.Core.Path.{_≡_, refl, sym, ap, _∙_}
-use mathlib.Core.List.{List, _++_}
+use mathlib.Core.Bool.{Bool, true, false, _||_}
+use mathlib.Core.List.{List, [], _∷_, _++_, map}
 use Prim.Native.Nat.{ℕ, _≤_}
 use native.Mathlib.Omega.{arith}
 use borrow.Author.Tests.{le-ltb}
+use lib.Dec.{leb}
 use lib.ListN.{length, take, drop, length-append}
 use lib.Seq.{length-take-le}
+use Rattle.values.specs.Flags.{stageFlagsBad}
+use Rattle.values.specs.declared.Stage.{Stage}
 use Rattle.values.specs.declared.Key.{Key}
 use Rattle.values.specs.declared.Variant.{Variant}
 use Rattle.values.specs.declared.Entry.{Entry}
 use Rattle.values.specs.declared.StateWrite.{StateWrite}
+use Rattle.values.specs.Kinds.{sevenBytes}
+use Rattle.states.specs.States.{wideStages}
 use Rattle.states.proofs.Accepted.{good}
-use Rattle.wire.specs.Bodies.{bodyLength, recordLength, bodyBytes, recordBytes}
-use Rattle.wire.specs.Values.{keyRecord, variantRecord, entryRecord, emitRecord, stateRecord}
+use Rattle.wire.specs.Bodies.{bodyLength, keyKind, recordLength, bodyBytes, recordBytes}
+use Rattle.wire.specs.Values.{keyAs, keyRecord, variantRecord, entryRecord, emitRecord, stateRecord}
 use Rattle.wire.specs.Reading.{took, readBody, readAs, readRecord}
 use Rattle.wire.specs.Writing.{writeAnswer, afterWriting}
 use Rattle.wire.specs.declared.Kind.{Kind}
@@ -27,13 +33,14 @@ use Rattle.wire.proofs.Laws.{known}
 use Rattle.wire.proofs.Found.{read-cases, read-taken}
 use Rattle.wire.proofs.Written.{fits-writes, wrote}
 
--- a record with the value of its kind alone
+-- a record with the value of its kind alone, a key as the record's kind has it
 unfoldable pub ownAs : Kind → Record → Record
-ownAs kind.Key r = keyRecord (r .key)
+ownAs kind.Key r = keyRecord (keyAs false (r .key))
 ownAs kind.Variant r = variantRecord (r .variant)
 ownAs kind.Entry r = entryRecord (r .entry)
 ownAs kind.Emit r = emitRecord
 ownAs kind.State r = stateRecord (r .write)
+ownAs kind.WideKey r = keyRecord (keyAs true (r .key))
 
 abbrev pub own : Record → Record
 own r = ownAs (r .kind) r
@@ -45,16 +52,25 @@ own-kind kind.Variant r = refl
 own-kind kind.Entry r = refl
 own-kind kind.Emit r = refl
 own-kind kind.State r = refl
+own-kind kind.WideKey r = refl
+
+-- the flags are those of the key
+flags-seven : (l : List Stage) → stageFlagsBad (map sevenBytes l) ≡ stageFlagsBad l
+unfolding stageFlagsBad
+flags-seven [] = refl
+flags-seven (s ∷ l) = ap (λ (b : Bool). leb 4 (s .flags) || b) (flags-seven l)
 
 -- a body of a value without a cause, whatever stands behind it, is read as that value
 module _ (r : Record) (x : List ℕ) (h : Shaped r) where
   body-reads : (k : Kind) → Free k r → readBody k (bodyBytes k r ++ x) ≡ took (ownAs k r)
   unfolding readBody bodyBytes ownAs
-  body-reads kind.Key f = rw (key-back (r .key) x (h .stages), f, specular-back (r .key) x (h .stages))
+  body-reads kind.Key f =
+      rw (key-back false (r .key) x (h .stages), flags-seven (r .key .stages), f, specular-back false (r .key) x (h .stages))
   body-reads kind.Variant f = rw (variant-back (r .variant) x, f)
   body-reads kind.Entry f = rw (entry-back (r .entry) x (h .name), f .0, f .1)
   body-reads kind.Emit f = refl
   body-reads kind.State f = rw (state-back (r .write) x, good (r .write) f)
+  body-reads kind.WideKey f = rw (key-back true (r .key) x (h .stages), f, specular-back true (r .key) x (h .stages))
 
   as-reads : (k : Kind) → Free k r → readAs k (bodyBytes k r ++ x) ≡ took (ownAs k r)
   unfolding readAs
@@ -74,35 +90,55 @@ own-reads-back r out n h a =
     bytes-read r _ h (w .0 .free)
     ∙ ap (λ (m : ℕ). record { answer = Took m; found = own r }) (ap recordLength (own-kind (r .kind) r) ∙ w .1)
 
--- A record as a user makes it: by `key_record`, `variant_record`, `entry_record`, `emit_record` or `state_record`.
+-- A record as a user makes it: by `key_record`, `variant_record`, `entry_record`, `emit_record` or `state_record`. Of a key its own kind has all.
 pub data Made : Record → Type 0 where
-  key : (k : Key) → Made (keyRecord k)
+  key : (k : Key) → wideStages k ≡ k .stages → Made (keyRecord k)
   variant : (v : Variant) → Made (variantRecord v)
   entry : (e : Entry) → Made (entryRecord e)
   emit : Made emitRecord
   state : (w : StateWrite) → Made (stateRecord w)
 
-made-own : (r : Record) → Made r → own r ≡ r
+-- a key's own record has of it what its kind has
+key-own : (k : Key) → own (keyRecord k) ≡ keyRecord (keyAs (k .wide) k)
 unfolding ownAs
-made-own r (key k) = refl
+key-own k = go (k .wide)
+  where
+    go : (wide : Bool) → ownAs (keyKind wide) (keyRecord k) ≡ keyRecord (keyAs wide k)
+    go true = refl
+    go false = refl
+
+made-own : (r : Record) → Made r → own r ≡ r
+unfolding ownAs wideStages
+made-own r (key k e) =
+    key-own k
+    ∙ ap (λ (l : List Stage). keyRecord (record { stages = l; «specular_add» = k .«specular_add»; projected = k .projected; wide = k .wide })) e
 made-own r (variant v) = refl
 made-own r (entry e) = refl
 made-own r emit = refl
 made-own r (state w) = refl
 
--- Wherever the writer writes r, the reader finds r again, in as many bytes as were written.
+-- Wherever the writer writes r, the reader finds f, in as many bytes as were written.
+abbrev pub ReadsAs : Record → Record → Type 0
+ReadsAs r f = (out : List ℕ) (n : ℕ) → writeAnswer r (length out) ≡ Wrote n →
+    readRecord (afterWriting (Wrote n) (recordBytes r) out) ≡ record { answer = Took n; found = f }
+
 abbrev pub ReadsBack : Record → Type 0
-ReadsBack r = (out : List ℕ) (n : ℕ) → writeAnswer r (length out) ≡ Wrote n →
-    readRecord (afterWriting (Wrote n) (recordBytes r) out) ≡ record { answer = Took n; found = r }
+ReadsBack r = ReadsAs r r
 
 -- "Every record written reads back as itself"
 pub written-reads-back : (r : Record) → Made r → Shaped r → ReadsBack r
 written-reads-back r m h out n a =
     own-reads-back r out n h a ∙ ap (λ (x : Record). record { answer = Took n; found = x }) (made-own r m)
 
--- so a key, a variant, an entry, a request for a text and a state write do
-pub key-reads-back : (k : Key) → length (k .stages) ≡ 8 → ReadsBack (keyRecord k)
-key-reads-back k h = written-reads-back (keyRecord k) (key k) (key-shaped k h)
+-- So a variant, an entry, a request for a text and a state write do, and a key of kind 6. A key of kind 1 comes back as what kind 1 has of it: itself,
+-- but that its arguments 0 are their default.
+pub key-reads-back : (k : Key) → length (k .stages) ≡ 8 → ReadsAs (keyRecord k) (keyRecord (keyAs (k .wide) k))
+key-reads-back k h out n a =
+    own-reads-back (keyRecord k) out n (key-shaped k h) a ∙ ap (λ (x : Record). record { answer = Took n; found = x }) (key-own k)
+
+pub wide-key-reads-back : (k : Key) → length (k .stages) ≡ 8 → k .wide ≡ true → ReadsBack (keyRecord k)
+unfolding wideStages
+wide-key-reads-back k h w = written-reads-back (keyRecord k) (key k (rw w)) (key-shaped k h)
 
 pub variant-reads-back : (v : Variant) → ReadsBack (variantRecord v)
 variant-reads-back v = written-reads-back (variantRecord v) (variant v) (variant-shaped v)
@@ -139,7 +175,7 @@ read-made b =
     read-cases (λ (x : Reading). Made (x .found)) b
     (record {
       refusal = λ c n. emit;
-      key = λ k t. key k;
+      key = λ k e t. key k e;
       variant = λ v t. variant v;
       entry = λ e t. entry e;
       emit = λ t. emit;

@@ -1,9 +1,12 @@
 -- What the writer answers, by cases: a refusal with its number, or the length of a record that is free of causes and fits.
 use mathlib.Core.Path.{_≡_, refl, sym, _∙_}
-use mathlib.Core.Bool.{Bool, cond}
+use mathlib.Core.Bool.{Bool, true, false, cond}
+use mathlib.Core.List.{[], _∷_}
 use Prim.Native.Nat.{ℕ, _≤_}
 use native.Mathlib.Omega.{arith}
 use borrow.Author.Tests.{le-ltb, ltb-false}
+use denote.Enum.Declared.{tagOf}
+use types.Run.{OneOf, miss}
 use lib.Dec.{ltb}
 use Rattle.values.specs.Refusals.{numberOf}
 use Rattle.values.specs.Flags.{stageFlagsBad, variantFlagsBad}
@@ -17,6 +20,7 @@ use Rattle.wire.specs.Bodies.{recordLength}
 use Rattle.wire.specs.Writing.{writeIf, writeAs, writeInto, writeAnswer, writeNumber, valueNumber, writtenNumber}
 use Rattle.wire.specs.declared.Kind.{Kind}
 use Rattle.wire.specs.declared.Kind.the-variants as kind
+use Rattle.wire.proofs.Kind.{the-type}
 use Rattle.wire.specs.declared.Record.{Record}
 use Rattle.wire.specs.declared.WriteAnswer.{WriteAnswer}
 use Rattle.wire.specs.declared.WriteAnswer.the-variants.{Wrote, Refused}
@@ -31,10 +35,32 @@ free-writes kind.Variant r a e f = rw (e, f)
 free-writes kind.Entry r a e f = rw (e, f .0, f .1)
 free-writes kind.Emit r a e f = rw e
 free-writes kind.State r a e f = rw (e, good (r .write) f)
+free-writes kind.WideKey r a e f = rw (e, f)
 
 -- and with room for it
 pub fits-writes : (r : Record) (room : ℕ) → Free (r .kind) r → recordLength (r .kind) ≤ room → writeAnswer r room ≡ Wrote (recordLength (r .kind))
 fits-writes r room f h = sym (free-writes (r .kind) r (writeInto room (r .kind)) refl f) ∙ rw (le-ltb room (recordLength (r .kind)) h)
+
+-- a key of either kind, with a cause and without one
+abbrev pub AnyKey : Kind → Type 0
+AnyKey k = OneOf (0 ∷ 5 ∷ []) (tagOf the-type k)
+
+pub any-key : (P : Kind → Type 0) → P kind.Key → P kind.WideKey → (k : Kind) → AnyKey k → P k
+any-key P p q kind.Key e = p
+any-key P p q kind.Variant e = absurd (miss (0 ∷ 5 ∷ []) 1 tt e)
+any-key P p q kind.Entry e = absurd (miss (0 ∷ 5 ∷ []) 2 tt e)
+any-key P p q kind.Emit e = absurd (miss (0 ∷ 5 ∷ []) 3 tt e)
+any-key P p q kind.State e = absurd (miss (0 ∷ 5 ∷ []) 4 tt e)
+any-key P p q kind.WideKey e = q
+
+module _ (r : Record) (a : WriteAnswer) (e : AnyKey (r .kind)) where
+  pub key-refused : stageFlagsBad (r .key .stages) ≡ true → Refused StageFlags ≡ writeAs (r .kind) r a
+  unfolding writeAs
+  key-refused f = any-key (λ (k : Kind). Refused StageFlags ≡ writeAs k r a) (rw f) (rw f) (r .kind) e
+
+  pub key-writes : stageFlagsBad (r .key .stages) ≡ false → a ≡ writeAs (r .kind) r a
+  unfolding writeAs
+  key-writes f = any-key (λ (k : Kind). a ≡ writeAs k r a) (rw f) (rw f) (r .kind) e
 
 -- What is answered and its number come of the same tests.
 value-cases : (Q : ℕ → WriteAnswer → Type 0) (k : Kind) (r : Record) (n : ℕ) (a : WriteAnswer) → ((c : Refusal) → Q (numberOf c) (Refused c)) →
@@ -46,6 +72,7 @@ value-cases Q kind.Entry r n a p q =
     either Q (entryGood (r .entry)) _ _ _ _ (λ e. either Q (entryReserved (r .entry)) _ _ _ _ (λ _. p ReservedWord) (λ f. q (e, f))) (λ _. p EntryName)
 value-cases Q kind.Emit r n a p q = q tt
 value-cases Q kind.State r n a p q = check-cases (λ (b : Bool) (m : ℕ) (c : Checked). Q (cond b n m) (writeIf c a)) (r .write) p q
+value-cases Q kind.WideKey r n a p q = either Q (stageFlagsBad (r .key .stages)) _ _ _ _ (λ _. p StageFlags) q
 
 -- what is known of the record that was written into a buffer of a length
 pub record Written (r : Record) (room : ℕ) : Type 0 where

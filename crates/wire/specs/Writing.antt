@@ -33,6 +33,7 @@ writeAs kind.Variant r other = cond (variantFlagsBad (r .variant)) (Refused Vari
 writeAs kind.Entry r other = cond (entryGood (r .entry)) (cond (entryReserved (r .entry)) (Refused ReservedWord) other) (Refused EntryName)
 writeAs kind.Emit r other = other
 writeAs kind.State r other = writeIf (checkedWrite (r .write)) other
+writeAs kind.WideKey r other = cond (stageFlagsBad (r .key .stages)) (Refused StageFlags) other
 
 -- 8: "for the writer 8 is a buffer shorter than the record"; room is the buffer's length
 abbrev pub writeInto : ℕ → Kind → WriteAnswer
@@ -61,6 +62,7 @@ valueNumber kind.Variant r other = cond (variantFlagsBad (r .variant)) 5 other
 valueNumber kind.Entry r other = cond (entryGood (r .entry)) (cond (entryReserved (r .entry)) 13 other) 6
 valueNumber kind.Emit r other = other
 valueNumber kind.State r other = cond (accepted (r .write)) other (stateWriteNumber (r .write))
+valueNumber kind.WideKey r other = cond (stageFlagsBad (r .key .stages)) 3 other
 
 abbrev pub writtenNumber : Record → ℕ → ℕ
 writtenNumber r room = valueNumber (r .kind) r (cond (ltb room (recordLength (r .kind))) 8 0)

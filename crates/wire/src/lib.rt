@@ -12,7 +12,7 @@ pub mod writer;
 
 use values::Refusal;
 ghost use mathlib.Core.Path.{_≡_};
-ghost use Rattle.wire.specs.Bodies.{bodyLength, kindByte, recordLength};
+ghost use Rattle.wire.specs.Bodies.{bodyLength, keyKind, kindByte, recordLength};
 
 pub enum Kind {
     Key,
@@ -20,9 +20,10 @@ pub enum Kind {
     Entry,
     Emit,
     State,
+    WideKey,
 }
 
-// A record by value. It is the value of its kind; the others are looked at nowhere, and blank in a record that was read.
+// A record by value. It is the value of its kind, and of both kinds of key its key; the others are looked at nowhere, and blank in a record that was read.
 pub struct Record {
     pub kind: Kind,
     pub key: Key,
@@ -60,6 +61,8 @@ pub const KIND_EMIT: u8 = 4;
 
 pub const KIND_STATE: u8 = 5;
 
+pub const KIND_WIDE_KEY: u8 = 6;
+
 // How many bytes follow the kind byte.
 const KEY_BODY: usize = 58;
 
@@ -71,6 +74,15 @@ const EMIT_BODY: usize = 0;
 
 const STATE_BODY: usize = 6;
 
+const WIDE_KEY_BODY: usize = 74;
+
+// The kind of a key's records: with arguments 0, or without.
+pub fn key_kind(wide: bool) -> Kind
+    ensures { λ r. ⌜ r ≡ keyKind wide ⌝ }
+{
+    if wide { Kind::WideKey } else { Kind::Key }
+}
+
 pub fn kind_byte(kind: Kind) -> u8
     ensures { λ r. ⌜ r ≡ kindByte kind ⌝ }
 {
@@ -80,6 +92,7 @@ pub fn kind_byte(kind: Kind) -> u8
         Kind::Entry => KIND_ENTRY,
         Kind::Emit => KIND_EMIT,
         Kind::State => KIND_STATE,
+        Kind::WideKey => KIND_WIDE_KEY,
     }
 }
 
@@ -93,6 +106,7 @@ pub fn body_length(kind: Kind) -> usize
         Kind::Entry => ENTRY_BODY,
         Kind::Emit => EMIT_BODY,
         Kind::State => STATE_BODY,
+        Kind::WideKey => WIDE_KEY_BODY,
     }
 }
 

@@ -1,6 +1,7 @@
 //! Records made from values.
 use crate::Kind;
 use crate::Record;
+use crate::key_kind;
 use values::Combiner;
 use values::Entry;
 use values::Key;
@@ -17,6 +18,7 @@ pub(crate) fn blank_stage() -> Stage
         op: 0,
         arg1: 0,
         arg2: 0,
+        arg0: 0,
     };
     Stage {
         colour: c,
@@ -35,6 +37,7 @@ pub fn blank_record(kind: Kind) -> Record
         stages: stages,
         specular_add: false,
         projected: 0,
+        wide: false,
     };
     let variant = Variant {
         alpha_func: 0,
@@ -68,10 +71,12 @@ pub fn blank_record(kind: Kind) -> Record
     }
 }
 
+// A record of the key's own kind.
 pub fn key_record(key: Key) -> Record
     ensures { λ r. ⌜ r ≡ keyRecord key ⌝ }
 {
-    let mut made = blank_record(Kind::Key);
+    let kind = key_kind(key.wide);
+    let mut made = blank_record(kind);
     made.key = key;
     made
 }

@@ -4,6 +4,7 @@ use crate::KIND_ENTRY;
 use crate::KIND_KEY;
 use crate::KIND_STATE;
 use crate::KIND_VARIANT;
+use crate::KIND_WIDE_KEY;
 use crate::Kind;
 use crate::ReadAnswer;
 use crate::Reading;
@@ -21,6 +22,7 @@ use admission::entry_reserved;
 use admission::stage_flags_bad;
 use admission::variant_flags_bad;
 use states::Checked;
+use states::DEFAULT_ARG0;
 use states::check;
 use values::Combiner;
 use values::Entry;
@@ -29,35 +31,41 @@ use values::Refusal;
 use values::Stage;
 use values::StateWrite;
 use values::Variant;
-ghost use Prim.Native.Nat.{_+_, _≤_, _<_};
+ghost use Prim.Native.Nat.{_+_, _*_, _≤_, _<_};
+ghost use mathlib.Core.Bool.{true, false};
 ghost use mathlib.Core.Path.{_≡_};
 ghost use lib.ListN.{drop, length};
-ghost use Rattle.wire.specs.Bodies.{bodyLength, entryFromBody, keyFromBody, maskAt, stageFromBytes, stagesFromBytes, stateFromBody, variantFromBody, wordAt};
-ghost use Rattle.wire.specs.Reading.{byKind, readAs, readBody, readNumber, readRecord, recordNumber, refused, took};
+ghost use Rattle.wire.specs.Bodies.{bodyLength, entryFromBody, keyFromBody, keyKind, maskAt, specularAt, stageFromBytes, stageSize, stagesFromBytes};
+ghost use Rattle.wire.specs.Bodies.{stateFromBody, variantFromBody, wordAt};
+ghost use Rattle.wire.specs.Reading.{byKind, readAs, readBody, readKey, readNumber, readRecord, recordNumber, refused, took};
 ghost use Rattle.values.specs.declared.Refusal.the-variants.{UnknownKind};
 
-// How many bytes a stage has.
+// How many bytes a stage has in each kind of key.
 const STAGE_BYTES: usize = 7;
 
-// Where specular add and the projected mask stand in a key's body, behind the eight stages.
+const WIDE_STAGE_BYTES: usize = 9;
+
+// Where specular add stands in a key's body, behind the eight stages; the projected mask stands behind it.
 const SPECULAR_AT: usize = 8 * STAGE_BYTES;
 
-const PROJECTED_AT: usize = SPECULAR_AT + 1;
+const WIDE_SPECULAR_AT: usize = 8 * WIDE_STAGE_BYTES;
 
-// The stage whose seven bytes begin at a place.
+// The stage whose seven bytes begin at a place. It has the default for its arguments 0.
 fn stage_at(body: &[u8], at: usize) -> Stage
     requires { ⌜ at + 7 ≤ length (now body) ⌝ }
-    ensures { λ r. ⌜ r ≡ stageFromBytes (drop at (now (body .entry))) ⌝ }
+    ensures { λ r. ⌜ r ≡ stageFromBytes false (drop at (now (body .entry))) ⌝ }
 {
     let colour = Combiner {
         op: body[at],
         arg1: body[at + 1],
         arg2: body[at + 2],
+        arg0: DEFAULT_ARG0,
     };
     let alpha = Combiner {
         op: body[at + 3],
         arg1: body[at + 4],
         arg2: body[at + 5],
+        arg0: DEFAULT_ARG0,
     };
     Stage {
         colour: colour,
@@ -66,9 +74,34 @@ fn stage_at(body: &[u8], at: usize) -> Stage
     }
 }
 
-fn stages_from_bytes(body: &[u8]) -> [Stage; 8]
+// The stage whose nine bytes begin at a place.
+fn wide_stage_at(body: &[u8], at: usize) -> Stage
+    requires { ⌜ at + 9 ≤ length (now body) ⌝ }
+    ensures { λ r. ⌜ r ≡ stageFromBytes true (drop at (now (body .entry))) ⌝ }
+{
+    let colour = Combiner {
+        op: body[at],
+        arg1: body[at + 1],
+        arg2: body[at + 2],
+        arg0: body[at + 6],
+    };
+    let alpha = Combiner {
+        op: body[at + 3],
+        arg1: body[at + 4],
+        arg2: body[at + 5],
+        arg0: body[at + 7],
+    };
+    Stage {
+        colour: colour,
+        alpha: alpha,
+        flags: body[at + 8],
+    }
+}
+
+// The stages of a key of each kind are read by a function of its own. Where one function reads both, the compiler chooses an address for every byte.
+fn narrow_stages(body: &[u8]) -> [Stage; 8]
     requires { ⌜ bodyLength Kind.Key ≤ length (now body) ⌝ }
-    ensures { λ r. ⌜ r ≡ stagesFromBytes 8 (now (body .entry)) ⌝ }
+    ensures { λ r. ⌜ r ≡ stagesFromBytes false 8 (now (body .entry)) ⌝ }
 {
     let s = blank_stage();
     let mut stages = [s; 8];
@@ -80,16 +113,63 @@ fn stages_from_bytes(body: &[u8]) -> [Stage; 8]
     stages
 }
 
-pub fn key_from_body(body: &[u8]) -> Key
-    requires { ⌜ bodyLength Kind.Key ≤ length (now body) ⌝ }
-    ensures { λ r. ⌜ r ≡ keyFromBody (now (body .entry)) ⌝ }
+fn wide_stages(body: &[u8]) -> [Stage; 8]
+    requires { ⌜ bodyLength Kind.WideKey ≤ length (now body) ⌝ }
+    ensures { λ r. ⌜ r ≡ stagesFromBytes true 8 (now (body .entry)) ⌝ }
 {
-    let stages = stages_from_bytes(body);
+    let s = blank_stage();
+    let mut stages = [s; 8];
+    let mut i = 0;
+    while i < 8 {
+        stages[i] = wide_stage_at(body, WIDE_STAGE_BYTES * i);
+        i += 1;
+    }
+    stages
+}
+
+fn specular_at(wide: bool) -> usize
+    ensures { λ r. ⌜ r ≡ specularAt wide ⌝ }
+{
+    if wide { WIDE_SPECULAR_AT } else { SPECULAR_AT }
+}
+
+// A key of kind 1.
+pub fn narrow_key(body: &[u8]) -> Key
+    requires { ⌜ bodyLength Kind.Key ≤ length (now body) ⌝ }
+    ensures { λ r. ⌜ r ≡ keyFromBody false (now (body .entry)) ⌝ }
+{
+    let stages = narrow_stages(body);
     Key {
         stages: stages,
         specular_add: body[SPECULAR_AT] == 1,
-        projected: body[PROJECTED_AT],
+        projected: body[SPECULAR_AT + 1],
+        wide: false,
     }
+}
+
+// A key of kind 6.
+pub fn wide_key(body: &[u8]) -> Key
+    requires { ⌜ bodyLength Kind.WideKey ≤ length (now body) ⌝ }
+    ensures { λ r. ⌜ r ≡ keyFromBody true (now (body .entry)) ⌝ }
+{
+    let stages = wide_stages(body);
+    Key {
+        stages: stages,
+        specular_add: body[WIDE_SPECULAR_AT] == 1,
+        projected: body[WIDE_SPECULAR_AT + 1],
+        wide: true,
+    }
+}
+
+// A key of kind 6, if it is wide, or of kind 1.
+pub fn key_from_body(body: &[u8], wide: bool) -> Key
+    requires { ⌜ bodyLength (keyKind wide) ≤ length (now body) ⌝ }
+    ensures { λ r. ⌜ r ≡ keyFromBody wide (now (body .entry)) ⌝ }
+{
+    if wide {
+        return wide_key(body);
+    }
+    narrow_key(body)
 }
 
 // The mask of the two bytes at a place, the low byte first.
@@ -190,12 +270,12 @@ fn take_record(found: Record) -> Reading
     }
 }
 
-fn read_key(body: &[u8]) -> Reading
-    requires { ⌜ bodyLength Kind.Key ≤ length (now body) ⌝ }
-    ensures { λ r. ⌜ r ≡ readBody Kind.Key (now (body .entry)) ⌝ }
+fn read_key(body: &[u8], wide: bool) -> Reading
+    requires { ⌜ bodyLength (keyKind wide) ≤ length (now body) ⌝ }
+    ensures { λ r. ⌜ r ≡ readKey wide (now (body .entry)) ⌝ }
 {
-    let key = key_from_body(body);
-    let specular = body[SPECULAR_AT];
+    let key = key_from_body(body, wide);
+    let specular = body[specular_at(wide)];
     if stage_flags_bad(key) {
         return refuse(Refusal::StageFlags);
     }
@@ -248,11 +328,12 @@ fn read_as(kind: Kind, body: &[u8]) -> Reading
         return refuse(Refusal::CutShort);
     }
     match kind {
-        Kind::Key => read_key(body),
+        Kind::Key => read_key(body, false),
         Kind::Variant => read_variant(body),
         Kind::Entry => read_entry(body),
         Kind::Emit => take_record(emit_record()),
         Kind::State => read_state(body),
+        Kind::WideKey => read_key(body, true),
     }
 }
 
@@ -266,6 +347,7 @@ fn read_kind(byte: u8, body: &[u8]) -> Reading
         KIND_ENTRY => read_as(Kind::Entry, body),
         KIND_EMIT => read_as(Kind::Emit, body),
         KIND_STATE => read_as(Kind::State, body),
+        KIND_WIDE_KEY => read_as(Kind::WideKey, body),
         _ => refuse(Refusal::UnknownKind),
     }
 }

@@ -1,12 +1,13 @@
 //! The writer: a record's bytes at the front of a lent buffer, or why there are none.
 use crate::KIND_EMIT;
 use crate::KIND_ENTRY;
-use crate::KIND_KEY;
 use crate::KIND_STATE;
 use crate::KIND_VARIANT;
 use crate::Kind;
 use crate::Record;
 use crate::WriteAnswer;
+use crate::key_kind;
+use crate::kind_byte;
 use crate::record_length;
 use admission::entry_good;
 use admission::entry_reserved;
@@ -26,13 +27,29 @@ ghost use mathlib.Core.List.{[], _∷_};
 ghost use lib.ListN.{length};
 ghost use Rattle.text.specs.Text.{raw};
 ghost use Rattle.text.specs.Buffer.{Wrote};
-ghost use Rattle.wire.specs.Bodies.{entryBytes, keyBytes, kindByte, maskBytes, masksBytes, recordBytes, stageBytes, stagesBytes, stateBytes, variantBytes};
+ghost use Rattle.wire.specs.Bodies.{keyKind, kindByte, maskBytes, masksBytes, stageBytes, stagesBytes};
+ghost use Rattle.wire.specs.Bodies.{entryBytes, keyBytes, recordBytes, stateBytes, variantBytes};
 ghost use Rattle.wire.specs.Writing.{afterWriting, writeAnswer, writeInto, writeNumber, writtenNumber};
 
-fn put_stage(out: &mut [u8], at: usize, s: Stage) -> usize
-    ensures { λ r. ⌜ Wrote (now (out .entry)) at (now (out .exit)) r (raw (stageBytes s)) ⌝ }
+// A stage of nine bytes, if it is wide, or of seven.
+fn put_stage(out: &mut [u8], at: usize, s: Stage, wide: bool) -> usize
+    ensures { λ r. ⌜ Wrote (now (out .entry)) at (now (out .exit)) r (raw (stageBytes wide s)) ⌝ }
 {
-    let b = [
+    if wide {
+        let nine = [
+            s.colour.op,
+            s.colour.arg1,
+            s.colour.arg2,
+            s.alpha.op,
+            s.alpha.arg1,
+            s.alpha.arg2,
+            s.colour.arg0,
+            s.alpha.arg0,
+            s.flags,
+        ];
+        return put(out, at, &nine);
+    }
+    let seven = [
         s.colour.op,
         s.colour.arg1,
         s.colour.arg2,
@@ -41,28 +58,30 @@ fn put_stage(out: &mut [u8], at: usize, s: Stage) -> usize
         s.alpha.arg2,
         s.flags,
     ];
-    put(out, at, &b)
+    put(out, at, &seven)
 }
 
-fn put_stages(out: &mut [u8], at: usize, key: Key) -> usize
-    ensures { λ r. ⌜ Wrote (now (out .entry)) at (now (out .exit)) r (raw (stagesBytes (key .stages))) ⌝ }
+fn put_stages(out: &mut [u8], at: usize, key: Key, wide: bool) -> usize
+    ensures { λ r. ⌜ Wrote (now (out .entry)) at (now (out .exit)) r (raw (stagesBytes wide (key .stages))) ⌝ }
 {
     let mut p = at;
     let mut i = 0;
     while i < 8 {
         let s = key.stages[i];
-        p = put_stage(out, p, s);
+        p = put_stage(out, p, s, wide);
         i += 1;
     }
     p
 }
 
-fn put_key(out: &mut [u8], key: Key) -> usize
-    ensures { λ r. ⌜ Wrote (now (out .entry)) 0 (now (out .exit)) r (raw (kindByte Kind.Key ∷ keyBytes key)) ⌝ }
+// The record's kind says whether the key is written as wide.
+fn put_key(out: &mut [u8], key: Key, wide: bool) -> usize
+    ensures { λ r. ⌜ Wrote (now (out .entry)) 0 (now (out .exit)) r (raw (kindByte (keyKind wide) ∷ keyBytes wide key)) ⌝ }
 {
-    let first = [KIND_KEY];
+    let kind = key_kind(wide);
+    let first = [kind_byte(kind)];
     let a = put(out, 0, &first);
-    let b = put_stages(out, a, key);
+    let b = put_stages(out, a, key, wide);
     let last = [key.specular_add as u8, key.projected];
     put(out, b, &last)
 }
@@ -137,11 +156,12 @@ fn put_record(out: &mut [u8], made: Record) -> usize
     let entry = made.entry;
     let write = made.write;
     match kind {
-        Kind::Key => put_key(out, key),
+        Kind::Key => put_key(out, key, false),
         Kind::Variant => put_variant(out, variant),
         Kind::Entry => put_entry(out, entry),
         Kind::Emit => put_emit(out),
         Kind::State => put_state(out, write),
+        Kind::WideKey => put_key(out, key, true),
     }
 }
 
@@ -167,7 +187,7 @@ fn judge(made: Record, room: usize) -> WriteAnswer
     let write = made.write;
     let free = judge_room(kind, room);
     match kind {
-        Kind::Key => {
+        Kind::Key | Kind::WideKey => {
             if stage_flags_bad(key) {
                 return WriteAnswer::Refused(Refusal::StageFlags);
             }

@@ -17,7 +17,7 @@ use Rattle.values.specs.declared.Key.{Key}
 use Rattle.values.specs.declared.Variant.{Variant}
 use Rattle.values.specs.declared.Entry.{Entry}
 use Rattle.values.specs.declared.Refusal.the-variants.{EmitTooEarly}
-use Rattle.wire.specs.Bodies.{kindByte, recordLength, keyFromBody, variantFromBody, entryFromBody}
+use Rattle.wire.specs.Bodies.{kindByte, bodyLength, keyKind, recordLength, variantFromBody, entryFromBody}
 use Rattle.wire.specs.Reading.{bodyNumber, recordNumber}
 use Rattle.wire.specs.declared.Kind.{Kind}
 use Rattle.wire.specs.declared.Kind.the-variants as kind
@@ -25,10 +25,11 @@ use Rattle.wire.proofs.Kind.{the-type}
 use Rattle.records.specs.Applying.{holdsAll, emitNumber, appliedNumber}
 use Rattle.yuzuknoll.specs.Lent.{after, recordNumbers, ReportedDemand3}
 use Rattle.yuzuknoll.specs.Records.{kindIn}
-use Rattle.yuzuknoll.specs.Applying.{placeOf, heldBody, isHeld, heldOf, onEmit, partWith, heldWith, textWith, noResult, resultWith, appliedNumbers}
+use Rattle.yuzuknoll.specs.Applying.{placeOf, roomOf, heldLength, heldByte, heldBody, isRecord, heldWide, heldOf}
+use Rattle.yuzuknoll.specs.Applying.{onEmit, partWith, heldWith, textWith, noResult, resultWith, appliedNumbers}
 use Rattle.yuzuknoll.proofs.Lent.{not-zero, left, first-refused, first-passed}
 use Rattle.yuzuknoll.proofs.Checking.{taken}
-use Rattle.yuzuknoll.proofs.Emitting.{Emits, admitted}
+use Rattle.yuzuknoll.proofs.Emitting.{Emits, admitted, body-free}
 
 -- eight numbers, one by one
 pub eight : (l : List ℕ) → length l ≡ 8
@@ -49,20 +50,31 @@ both true b e = (refl, e)
 both false b e = absurd (let z : _≡_ {A = ℕ} 0 1 = cc in omega arith)
 
 -- a part that is held has a body without a cause
-pub held-free : (k : Kind) (held : List ℕ) → isHeld k held ≡ true → bodyNumber k (heldBody k held) ≡ 0
-held-free k held e = eqb-true _ _ (both (eqb (getD held (placeOf k) 0) (kindByte k)) _ e .1)
+pub held-free : (k : Kind) (byte : ℕ) (body : List ℕ) → isRecord k byte body ≡ true → bodyNumber k body ≡ 0
+held-free k byte body e = eqb-true _ _ (both (eqb byte (kindByte k)) _ e .1)
+
+-- either kind of key has room in the key's part
+pub key-within : (wide : Bool) → bodyLength (keyKind wide) ≤ roomOf kind.Key
+key-within true = omega arith
+key-within false = omega arith
+
+pub key-fits : (wide : Bool) {n : ℕ} → roomOf kind.Key ≤ n → bodyLength (keyKind wide) ≤ n
+key-fits wide h = omega (arith, key-within wide)
 
 -- values read from bytes that hold all three
-module _ (held : List ℕ) {k : Key} {v : Variant} {e : Entry} (p : k ≡ keyFromBody (heldBody kind.Key held))
+module _ (held : List ℕ) {k : Key} {v : Variant} {e : Entry} (p : k ≡ heldOf held .key)
     (q : v ≡ variantFromBody (heldBody kind.Variant held)) (r : e ≡ entryFromBody (heldBody kind.Entry held)) where
   pub held-admitted : holdsAll (heldOf held) ≡ true → Admitted k v e
   unfolding heldOf
   held-admitted t =
-      let s = both (isHeld kind.Key held) (isHeld kind.Variant held && isHeld kind.Entry held) t in
-      let u = both (isHeld kind.Variant held) (isHeld kind.Entry held) (s .1) in
+      let s = both (heldOf held .«has_key») (heldOf held .«has_variant» && heldOf held .«has_entry») t in
+      let u = both (heldOf held .«has_variant») (heldOf held .«has_entry») (s .1) in
       rw (p, q, r)
-      (admitted (heldBody kind.Key held) (heldBody kind.Variant held) (heldBody kind.Entry held)
-      (held-free kind.Key held (s .0)) (held-free kind.Variant held (u .0)) (held-free kind.Entry held (u .1)))
+      (admitted _
+      (body-free (heldWide held) (heldBody kind.Key held) (held-free (keyKind (heldWide held)) (heldByte kind.Key held) (heldBody kind.Key held) (s .0)))
+      (heldBody kind.Variant held) (heldBody kind.Entry held)
+      (held-free kind.Variant (heldByte kind.Variant held) (heldBody kind.Variant held) (u .0))
+      (held-free kind.Entry (heldByte kind.Entry held) (heldBody kind.Entry held) (u .1)))
 
 -- Emission from held bytes: its number, the text and the result that it leaves.
 module _ (held out res : List ℕ) where
@@ -79,7 +91,7 @@ module _ (held out res : List ℕ) where
         let h : n ≡ 0 → ⊥ = λ z. not-zero EmitTooEarly (sym q ∙ z) in
         (rw (sym e ∙ f) q, (left _ out h, (left _ res h, λ z. absurd (h z))))
 
-    pub held-emitted : {n : ℕ} {out′ res′ : List ℕ} {k : Key} {v : Variant} {x : Entry} → all ≡ true → k ≡ keyFromBody (heldBody kind.Key held) →
+    pub held-emitted : {n : ℕ} {out′ res′ : List ℕ} {k : Key} {v : Variant} {x : Entry} → all ≡ true → k ≡ heldOf held .key →
         v ≡ variantFromBody (heldBody kind.Variant held) → x ≡ entryFromBody (heldBody kind.Entry held) → Emits k v x out res n out′ res′ →
         HeldEmits n out′ res′
     unfolding heldOf emitNumber textWith resultWith
@@ -117,6 +129,7 @@ other kind.Variant v x y = refl
 other kind.Entry v x y = refl
 other kind.Emit v x y = absurd (omega arith)
 other kind.State v x y = refl
+other kind.WideKey v x y = refl
 
 emit-byte : (k : Kind) (n : ℕ) → onEmit k n 0 ≡ cond (eqb (kindByte k) 4) n 0
 emit-byte kind.Key n = refl
@@ -124,19 +137,24 @@ emit-byte kind.Variant n = refl
 emit-byte kind.Entry n = refl
 emit-byte kind.Emit n = refl
 emit-byte kind.State n = refl
+emit-byte kind.WideKey n = refl
 
 -- one that is kept: its own bytes stand over its part
 pub record Keeps (k : Kind) : Type 0 where
   pub other : isEmit k ≡ 0
-  pub room : placeOf k + recordLength k ≤ 113
+  pub room : placeOf k + recordLength k ≤ heldLength
   pub part : (b held : List ℕ) → partWith k b held ≡ take (recordLength k) b
 
-pub keeps : (k : Kind) → OneOf (0 ∷ 1 ∷ 2 ∷ []) (tagOf the-type k) → Keeps k
+abbrev kept : List ℕ
+kept = 0 ∷ 1 ∷ 2 ∷ 5 ∷ []
+
+pub keeps : (k : Kind) → OneOf kept (tagOf the-type k) → Keeps k
 keeps kind.Key h = record { other = refl; room = omega arith; part = λ b held. refl }
 keeps kind.Variant h = record { other = refl; room = omega arith; part = λ b held. refl }
 keeps kind.Entry h = record { other = refl; room = omega arith; part = λ b held. refl }
-keeps kind.Emit h = absurd (miss (0 ∷ 1 ∷ 2 ∷ []) 3 tt h)
-keeps kind.State h = absurd (miss (0 ∷ 1 ∷ 2 ∷ []) 4 tt h)
+keeps kind.Emit h = absurd (miss kept 3 tt h)
+keeps kind.State h = absurd (miss kept 4 tt h)
+keeps kind.WideKey h = record { other = refl; room = omega arith; part = λ b held. refl }
 
 -- one that leaves held bytes as they are
 pub either-way : (t : Bool) (l : List ℕ) → l ≡ cond t l l

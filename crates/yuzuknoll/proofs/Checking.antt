@@ -48,7 +48,9 @@ taken b =
 
 -- the kind that a byte names, and that it is the record's
 abbrev kindFor : ℕ → Kind
-kindFor n = cond (eqb n 1) kind.Key (cond (eqb n 2) kind.Variant (cond (eqb n 3) kind.Entry (cond (eqb n 5) kind.State kind.Emit)))
+kindFor n =
+    cond (eqb n 1) kind.Key
+    (cond (eqb n 2) kind.Variant (cond (eqb n 3) kind.Entry (cond (eqb n 5) kind.State (cond (eqb n 6) kind.WideKey kind.Emit))))
 
 kind-for : (k : Kind) → kindFor (kindByte k) ≡ k
 kind-for kind.Key = refl
@@ -56,6 +58,7 @@ kind-for kind.Variant = refl
 kind-for kind.Entry = refl
 kind-for kind.Emit = refl
 kind-for kind.State = refl
+kind-for kind.WideKey = refl
 
 module _ (b : List ℕ) (z : recordNumber b ≡ 0) where
   named : kindFor (getD b 0 0) ≡ kindIn b
@@ -64,5 +67,6 @@ module _ (b : List ℕ) (z : recordNumber b ≡ 0) where
   pub kind-named : {n : ℕ} → getD b 0 0 ≡ n → kindFor n ≡ kindIn b
   kind-named e = ap kindFor (sym e) ∙ named
 
-  pub kind-other : (getD b 0 0 ≡ 1 → ⊥) → (getD b 0 0 ≡ 2 → ⊥) → (getD b 0 0 ≡ 3 → ⊥) → (getD b 0 0 ≡ 5 → ⊥) → kind.Emit ≡ kindIn b
-  kind-other p q r s = rw (ne-eqb _ _ p, ne-eqb _ _ q, ne-eqb _ _ r, ne-eqb _ _ s) at named
+  pub kind-other : (getD b 0 0 ≡ 1 → ⊥) → (getD b 0 0 ≡ 2 → ⊥) → (getD b 0 0 ≡ 3 → ⊥) → (getD b 0 0 ≡ 5 → ⊥) → (getD b 0 0 ≡ 6 → ⊥) →
+      kind.Emit ≡ kindIn b
+  kind-other p q r s t = rw (ne-eqb _ _ p, ne-eqb _ _ q, ne-eqb _ _ r, ne-eqb _ _ s, ne-eqb _ _ t) at named

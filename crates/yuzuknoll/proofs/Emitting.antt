@@ -1,6 +1,6 @@
 -- What emission promises of its answer, said by numbers; and that bodies without a cause stand for values that emission need not check.
 use Prim.Native.Nat.{ℕ}
-use mathlib.Core.Bool.{Bool, true, false, not, cond}
+use mathlib.Core.Bool.{Bool, true, false, not, cond, true≢false}
 use mathlib.Core.Path.{_≡_, refl, sym, ap, _∙_}
 use mathlib.Core.List.{List}
 use native.Mathlib.Omega.{arith}
@@ -21,7 +21,7 @@ use Rattle.values.specs.declared.Answer.{Answer}
 use Rattle.values.specs.declared.Answer.the-variants.{Text, Refused}
 use Rattle.shader.specs.Results.{emittedOf, textOf, answerOf, answerNumber, emissionNumber, bufferAfter}
 use Rattle.shader.specs.Demand.{Demanded}
-use Rattle.wire.specs.Bodies.{specularByte, keyFromBody, variantFromBody, entryFromBody}
+use Rattle.wire.specs.Bodies.{keyKind, specularByte, keyFromBody, variantFromBody, entryFromBody}
 use Rattle.wire.specs.Reading.{bodyNumber}
 use Rattle.wire.specs.declared.Kind.the-variants as kind
 use Rattle.yuzuknoll.specs.Lent.{after, firstOf, atFront, resultNumbers, ReportedDemand3}
@@ -85,7 +85,7 @@ ofVariant five = cond five 5 0
 abbrev ofEntry : Bool → Bool → ℕ
 ofEntry good word = cond good (cond word 13 0) 6
 
-pub key-bits : (three four : Bool) → ofKey three four ≡ 0 → three ≡ false
+key-bits : (three four : Bool) → ofKey three four ≡ 0 → three ≡ false
 key-bits true four e = absurd (omega arith)
 key-bits false four e = refl
 
@@ -98,63 +98,84 @@ entry-bits true false e = (refl, refl)
 entry-bits true true e = absurd (omega arith)
 entry-bits false word e = absurd (omega arith)
 
-table : (three four five good word eight : Bool) → ofKey three four ≡ 0 →
+table : (three five good word eight : Bool) → three ≡ false →
     cond three 3 (cond five 5 (cond (not good) 6 (cond word 13 (cond eight 8 0))))
     ≡ firstOf (ofVariant five) (firstOf (ofEntry good word) (cond eight 8 0))
-table true four five good word eight e = absurd (omega arith)
-table false four true good word eight e = refl
-table false four false true true eight e = refl
-table false four false true false eight e = refl
-table false four false false word eight e = refl
+table true five good word eight e = absurd (true≢false e)
+table false true good word eight e = refl
+table false false true true eight e = refl
+table false false true false eight e = refl
+table false false false word eight e = refl
 
-module _ (k v e : List ℕ) where
-  pub admitted : bodyNumber kind.Key k ≡ 0 → bodyNumber kind.Variant v ≡ 0 → bodyNumber kind.Entry e ≡ 0 →
-      Admitted (keyFromBody k) (variantFromBody v) (entryFromBody e)
+-- A key's number, of either kind, is told by its flags and its specular byte.
+module _ (wide : Bool) (k : List ℕ) where
+  abbrev flagsBad : Bool
+  flagsBad = stageFlagsBad (keyFromBody wide k .stages)
+
+  abbrev specularBad : Bool
+  specularBad = ltb 1 (specularByte wide k)
+
+key-cause : (wide : Bool) (k : List ℕ) → bodyNumber (keyKind wide) k ≡ ofKey (flagsBad wide k) (specularBad wide k)
+unfolding bodyNumber
+key-cause true k = refl
+key-cause false k = refl
+
+pub body-free : (wide : Bool) (k : List ℕ) → bodyNumber (keyKind wide) k ≡ 0 → stageFlagsBad (keyFromBody wide k .stages) ≡ false
+body-free wide k p = key-bits (flagsBad wide k) (specularBad wide k) (sym (key-cause wide k) ∙ p)
+
+-- Emission from a key that is free of 3, and from the bodies of a variant and an entry.
+module _ (key : Key) (free : stageFlagsBad (key .stages) ≡ false) (v e : List ℕ) where
+  abbrev variant : Variant
+  variant = variantFromBody v
+
+  abbrev entry : Entry
+  entry = entryFromBody e
+
+  pub admitted : bodyNumber kind.Variant v ≡ 0 → bodyNumber kind.Entry e ≡ 0 → Admitted key variant entry
   unfolding bodyNumber
-  admitted p q r =
+  admitted q r =
       record {
-        stageFlags = key-bits (stageFlagsBad (keyFromBody k .stages)) (ltb 1 (specularByte k)) p;
-        variantFlags = variant-bits (variantFlagsBad (variantFromBody v)) q;
-        entryName = entry-bits (entryGood (entryFromBody e)) (entryReserved (entryFromBody e)) r .0;
-        entryWord = entry-bits (entryGood (entryFromBody e)) (entryReserved (entryFromBody e)) r .1;
+        stageFlags = free;
+        variantFlags = variant-bits (variantFlagsBad variant) q;
+        entryName = entry-bits (entryGood entry) (entryReserved entry) r .0;
+        entryWord = entry-bits (entryGood entry) (entryReserved entry) r .1;
       }
 
   -- emission's causes behind those of the key
-  behind-key : (room : ℕ) → bodyNumber kind.Key k ≡ 0 →
-      emissionNumber (keyFromBody k) (variantFromBody v) (entryFromBody e) room
-      ≡ firstOf (bodyNumber kind.Variant v) (firstOf (bodyNumber kind.Entry e) (cond (ltb room (length (bodiesText k v e))) 8 0))
+  behind-key : (room : ℕ) → emissionNumber key variant entry room
+      ≡ firstOf (bodyNumber kind.Variant v) (firstOf (bodyNumber kind.Entry e) (cond (ltb room (length (textOf key variant entry))) 8 0))
   unfolding bodyNumber emissionNumber
-  behind-key room p =
-      table (stageFlagsBad (keyFromBody k .stages)) (ltb 1 (specularByte k)) (variantFlagsBad (variantFromBody v)) (entryGood (entryFromBody e))
-      (entryReserved (entryFromBody e)) (ltb room (length (bodiesText k v e))) p
+  behind-key room =
+      table (stageFlagsBad (key .stages)) (variantFlagsBad variant) (entryGood entry) (entryReserved entry)
+      (ltb room (length (textOf key variant entry))) free
 
-  -- what yuzuknoll_emit promises
   module _ (out res : List ℕ) where
-    abbrev Answered : ℕ → List ℕ → List ℕ → Type 0
-    Answered n out′ res′ =
-        (n ≡ bodiesNumber k v e (length out))
-        × ((out′ ≡ after n (atFront (bodiesText k v e) out) out)
-        × ((res′ ≡ after n (bodiesResult k v e) res) × (n ≡ 0 → ReportedDemand3 (keyFromBody k) out′ res′)))
-
-    refused : {n : ℕ} → n ≡ bodiesNumber k v e (length out) → (n ≡ 0 → ⊥) → Answered n out res
+    refused : {n : ℕ} → n ≡ emissionNumber key variant entry (length out) → (n ≡ 0 → ⊥) → Emits key variant entry out res n out res
     refused q h = (q, (left _ out h, (left _ res h, λ z. absurd (h z))))
 
-    module _ {a : ℕ} (p : a ≡ bodyNumber kind.Key k) where
-      pub key-refused : (a ≡ 0 → ⊥) → Answered a out res
-      key-refused h = refused (first-refused _ p h) h
+    pub parts-emitted : {n : ℕ} {out′ res′ : List ℕ} {v′ : Variant} {e′ : Entry} → v′ ≡ variant → e′ ≡ entry
+        → Emits key v′ e′ out res n out′ res′ → Emits key variant entry out res n out′ res′
+    parts-emitted g h s = rw (g, h) at s
 
-      module _ (z : a ≡ 0) where
-        pub bodies-emitted : {n : ℕ} {out′ res′ : List ℕ} {key : Key} {variant : Variant} {entry : Entry} →
-            key ≡ keyFromBody k → variant ≡ variantFromBody v → entry ≡ entryFromBody e → Emits key variant entry out res n out′ res′ → Answered n out′ res′
-        bodies-emitted f g h s = let t = rw (f, g, h) at s in (first-passed p z (t .0), t .1)
+    module _ {b : ℕ} (q : b ≡ bodyNumber kind.Variant v) where
+      pub variant-refused : (b ≡ 0 → ⊥) → Emits key variant entry out res b out res
+      variant-refused h = refused (first-refused _ q h ∙ sym (behind-key (length out))) h
 
-        emission : emissionNumber (keyFromBody k) (variantFromBody v) (entryFromBody e) (length out)
-            ≡ firstOf (bodyNumber kind.Variant v) (firstOf (bodyNumber kind.Entry e) (cond (ltb (length out) (length (bodiesText k v e))) 8 0))
-        emission = behind-key (length out) (sym p ∙ z)
+      pub entry-refused : {c : ℕ} → b ≡ 0 → c ≡ bodyNumber kind.Entry e → (c ≡ 0 → ⊥) → Emits key variant entry out res c out res
+      entry-refused y r h = refused (first-passed q y (first-refused _ r h) ∙ sym (behind-key (length out))) h
 
-        module _ {b : ℕ} (q : b ≡ bodyNumber kind.Variant v) where
-          pub variant-refused : (b ≡ 0 → ⊥) → Answered b out res
-          variant-refused h = refused (first-passed p z (first-refused _ q h ∙ sym emission)) h
+-- Emission from three bodies, of which the key's may have a cause.
+module _ (wide : Bool) (k v e out res : List ℕ) where
+  abbrev Answered : ℕ → List ℕ → List ℕ → Type 0
+  Answered n out′ res′ =
+      (n ≡ bodiesNumber wide k v e (length out))
+      × ((out′ ≡ after n (atFront (bodiesText wide k v e) out) out)
+      × ((res′ ≡ after n (bodiesResult wide k v e) res) × (n ≡ 0 → ReportedDemand3 (keyFromBody wide k) out′ res′)))
 
-          pub entry-refused : {c : ℕ} → b ≡ 0 → c ≡ bodyNumber kind.Entry e → (c ≡ 0 → ⊥) → Answered c out res
-          entry-refused y r h = refused (first-passed p z (first-passed q y (first-refused _ r h) ∙ sym emission)) h
+  module _ {a : ℕ} (p : a ≡ bodyNumber (keyKind wide) k) where
+    pub key-refused : (a ≡ 0 → ⊥) → Answered a out res
+    key-refused h = (first-refused _ p h, (left _ out h, (left _ res h, λ z. absurd (h z))))
+
+    pub bodies-emitted : {n : ℕ} {out′ res′ : List ℕ} {key : Key} → a ≡ 0 → key ≡ keyFromBody wide k
+        → Emits key (variantFromBody v) (entryFromBody e) out res n out′ res′ → Answered n out′ res′
+    bodies-emitted z f s = let t = rw f at s in (first-passed p z (t .0), t .1)

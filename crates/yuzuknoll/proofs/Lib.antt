@@ -5,3 +5,4 @@ pub mod Records
 mod Applying
 mod Altering
 pub mod Held
+pub mod Rearranged

@@ -32,6 +32,7 @@ free-number kind.Variant r n f = rw f
 free-number kind.Entry r n f = rw (f .0, f .1)
 free-number kind.Emit r n f = refl
 free-number kind.State r n f = rw f
+free-number kind.WideKey r n f = rw f
 
 module _ (b : List ℕ) (z : recordNumber b ≡ 0) where
   copy-number : (room : ℕ) → cond (ltb room (recordLength (kindIn b))) 8 0 ≡ copyNumber b room

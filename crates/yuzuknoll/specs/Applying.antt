@@ -8,7 +8,7 @@ use lib.ListN.{take, drop, getD, replicate}
 use lib.Seq.{sets}
 use Rattle.shader.specs.Results.{emittedOf, textOf}
 use Rattle.states.specs.Writes.{writeApplied}
-use Rattle.wire.specs.Bodies.{kindByte, bodyLength, recordLength, recordBytes, keyFromBody, variantFromBody, entryFromBody, stateFromBody}
+use Rattle.wire.specs.Bodies.{kindByte, keyKind, recordLength, recordBytes, keyFromBody, variantFromBody, entryFromBody, stateFromBody}
 use Rattle.wire.specs.Values.{keyRecord}
 use Rattle.wire.specs.Reading.{bodyNumber}
 use Rattle.wire.specs.declared.Kind.{Kind}
@@ -19,31 +19,50 @@ use Rattle.yuzuknoll.specs.Lent.{atFront, recordNumbers, resultNumbers}
 
 -- What is held.
 
--- The records of a key, a variant and an entry stand one behind another, in 59, 20 and 34 bytes: where each begins, and its body. A state write
--- belongs to the key.
+-- The records of a key, a variant and an entry stand one behind another, each in a part of its own: where it begins, and how many bytes it has behind
+-- the kind byte. The key's part has room for a record of either kind. A state write belongs to the key.
 abbrev pub placeOf : Kind → ℕ
 placeOf kind.Key = 0
-placeOf kind.Variant = 59
-placeOf kind.Entry = 79
-placeOf kind.Emit = 113
+placeOf kind.Variant = 75
+placeOf kind.Entry = 95
+placeOf kind.Emit = 129
 placeOf kind.State = 0
+placeOf kind.WideKey = 0
+
+abbrev pub roomOf : Kind → ℕ
+roomOf kind.Key = 74
+roomOf kind.Variant = 19
+roomOf kind.Entry = 33
+roomOf kind.Emit = 0
+roomOf kind.State = 74
+roomOf kind.WideKey = 74
+
+abbrev pub heldLength : ℕ
+heldLength = 129
+
+abbrev pub heldByte : Kind → List ℕ → ℕ
+heldByte k held = getD held (placeOf k) 0
 
 abbrev pub heldBody : Kind → List ℕ → List ℕ
-heldBody k held = take (bodyLength k) (drop (placeOf k + 1) held)
+heldBody k held = take (roomOf k) (drop (placeOf k + 1) held)
 
 -- A part that is no good record of its kind counts as not held. So zeros hold nothing.
-abbrev pub isHeld : Kind → List ℕ → Bool
-isHeld k held = eqb (getD held (placeOf k) 0) (kindByte k) && eqb (bodyNumber k (heldBody k held)) 0
+abbrev pub isRecord : Kind → ℕ → List ℕ → Bool
+isRecord k byte body = eqb byte (kindByte k) && eqb (bodyNumber k body) 0
+
+-- The kind byte of the key's part tells which kind of key it may be.
+abbrev pub heldWide : List ℕ → Bool
+heldWide held = eqb (heldByte kind.Key held) (kindByte kind.WideKey)
 
 -- the values that held bytes stand for
 unfoldable pub heldOf : List ℕ → Held
 heldOf held =
     record {
-      «has_key» = isHeld kind.Key held;
-      key = keyFromBody (heldBody kind.Key held);
-      «has_variant» = isHeld kind.Variant held;
+      «has_key» = isRecord (keyKind (heldWide held)) (heldByte kind.Key held) (heldBody kind.Key held);
+      key = keyFromBody (heldWide held) (heldBody kind.Key held);
+      «has_variant» = isRecord kind.Variant (heldByte kind.Variant held) (heldBody kind.Variant held);
       variant = variantFromBody (heldBody kind.Variant held);
-      «has_entry» = isHeld kind.Entry held;
+      «has_entry» = isRecord kind.Entry (heldByte kind.Entry held) (heldBody kind.Entry held);
       entry = entryFromBody (heldBody kind.Entry held);
     }
 
@@ -56,14 +75,17 @@ onEmit kind.Variant emits holds = holds
 onEmit kind.Entry emits holds = holds
 onEmit kind.Emit emits holds = emits
 onEmit kind.State emits holds = holds
+onEmit kind.WideKey emits holds = holds
 
--- what then stands in the record's part of the held bytes: the record at the front of b, or, for a state write, the record of the altered key
+-- what then stands at the front of the record's part of the held bytes: the record at the front of b, or, for a state write, the record of the altered
+-- key. What the part has behind it stays.
 abbrev pub partWith : Kind → List ℕ → List ℕ → List ℕ
 partWith kind.Key b held = take (recordLength kind.Key) b
 partWith kind.Variant b held = take (recordLength kind.Variant) b
 partWith kind.Entry b held = take (recordLength kind.Entry) b
 partWith kind.Emit b held = []
 partWith kind.State b held = recordBytes (keyRecord (writeApplied (stateFromBody (drop 1 b)) (keyOrDefaults (heldOf held))))
+partWith kind.WideKey b held = take (recordLength kind.WideKey) b
 
 unfoldable pub heldWith : Kind → List ℕ → List ℕ → List ℕ
 heldWith k b held = onEmit k held (sets held (placeOf k) (partWith k b held))

@@ -11,7 +11,9 @@ use states::set;
 use text::put;
 use values::Key;
 use values::Refusal;
+use wire::KIND_WIDE_KEY;
 use wire::Kind;
+use wire::key_kind;
 use wire::kind_byte;
 use wire::make::key_record;
 use wire::reader::entry_from_body;
@@ -22,32 +24,35 @@ use wire::record_length;
 use wire::writer::write;
 ghost use Prim.Native.Nat.{_+_, _≤_};
 ghost use mathlib.Core.Path.{_≡_};
-ghost use mathlib.Core.Bool.{_&&_};
 ghost use mathlib.Core.List.{_++_};
-ghost use lib.Dec.{eqb};
 ghost use lib.ListN.{drop, length, take};
 ghost use lib.Seq.{sets};
 ghost use Rattle.records.specs.Applying.{appliedNumber, emitNumber, holdsAll, keyOrDefaults};
-ghost use Rattle.wire.specs.Bodies.{bodyLength, kindByte, recordLength};
-ghost use Rattle.wire.specs.Reading.{bodyNumber};
+ghost use Rattle.wire.specs.Bodies.{bodyLength, recordLength};
 ghost use Rattle.yuzuknoll.specs.Lent.{ReportedDemand3, after, recordNumbers};
 ghost use Rattle.yuzuknoll.specs.Records.{kindIn};
-ghost use Rattle.yuzuknoll.specs.Applying.{appliedNumbers, heldOf, heldWith, noResult, placeOf, resultWith, textWith};
+ghost use Rattle.yuzuknoll.specs.Applying.{appliedNumbers, heldLength, heldOf, heldWith, isRecord, noResult, placeOf, resultWith, textWith};
 
-// The held bytes: the records of a key, a variant and an entry, each a kind byte and a body.
+// The held bytes: the records of a key, of either kind, a variant and an entry, each a kind byte and a body.
+const KEY_ROOM: usize = 75;
+
+const VARIANT_ROOM: usize = 20;
+
+const ENTRY_ROOM: usize = 34;
+
 const KEY_PLACE: usize = 0;
 
-const KEY_BODY: usize = 1;
+const KEY_BODY: usize = KEY_PLACE + 1;
 
-const VARIANT_PLACE: usize = 59;
+const VARIANT_PLACE: usize = KEY_PLACE + KEY_ROOM;
 
-const VARIANT_BODY: usize = 60;
+const VARIANT_BODY: usize = VARIANT_PLACE + 1;
 
-const ENTRY_PLACE: usize = 79;
+const ENTRY_PLACE: usize = VARIANT_PLACE + VARIANT_ROOM;
 
-const ENTRY_BODY: usize = 80;
+const ENTRY_BODY: usize = ENTRY_PLACE + 1;
 
-const HELD_LENGTH: usize = 113;
+const HELD_LENGTH: usize = ENTRY_PLACE + ENTRY_ROOM;
 
 // A record's kind and length, and a result.
 const APPLIED_LENGTH: usize = 10;
@@ -62,22 +67,46 @@ fn place_of(kind: Kind) -> usize
         Kind::Entry => ENTRY_PLACE,
         Kind::Emit => HELD_LENGTH,
         Kind::State => KEY_PLACE,
+        Kind::WideKey => KEY_PLACE,
     }
 }
 
 // Whether a part of the held bytes, a kind byte and a body, is a good record of its kind.
 fn part_held(kind: Kind, byte: u8, body: &[u8]) -> bool
     requires { ⌜ bodyLength kind ≤ length (now body) ⌝ }
-    ensures { λ r. ⌜ r ≡ (eqb byte (kindByte kind) && eqb (bodyNumber kind (now (body .entry))) 0) ⌝ }
+    ensures { λ r. ⌜ r ≡ isRecord kind byte (now (body .entry)) ⌝ }
 {
     (byte == kind_byte(kind)) & (kind_number(kind, body) == ACCEPTED)
 }
 
+fn holds_key(held: &[u8]) -> bool
+    requires { ⌜ length (now held) ≡ heldLength ⌝ }
+    ensures { λ r. ⌜ r ≡ heldOf (now (held .entry)) .«has_key» ⌝ }
+{
+    let byte = held[KEY_PLACE];
+    part_held(
+        key_kind(byte == KIND_WIDE_KEY),
+        byte,
+        &held[KEY_BODY..VARIANT_PLACE],
+    )
+}
+
+// The key that the held bytes have if they hold one.
+fn held_key(held: &[u8]) -> Key
+    requires { ⌜ length (now held) ≡ heldLength ⌝ }
+    ensures { λ r. ⌜ r ≡ heldOf (now (held .entry)) .key ⌝ }
+{
+    key_from_body(
+        &held[KEY_BODY..VARIANT_PLACE],
+        held[KEY_PLACE] == KIND_WIDE_KEY,
+    )
+}
+
 fn holds_all(held: &[u8]) -> bool
-    requires { ⌜ length (now held) ≡ 113 ⌝ }
+    requires { ⌜ length (now held) ≡ heldLength ⌝ }
     ensures { λ r. ⌜ r ≡ holdsAll (heldOf (now (held .entry))) ⌝ }
 {
-    let key = part_held(Kind::Key, held[KEY_PLACE], &held[KEY_BODY..VARIANT_PLACE]);
+    let key = holds_key(held);
     let variant = part_held(
         Kind::Variant,
         held[VARIANT_PLACE],
@@ -93,7 +122,7 @@ fn holds_all(held: &[u8]) -> bool
 
 // Emission from the held values.
 fn emit_held(held: &[u8], text: &mut [u8], result: &mut [u64; RESULT_LENGTH]) -> u64
-    requires { ⌜ length (now held) ≡ 113 ⌝ }
+    requires { ⌜ length (now held) ≡ heldLength ⌝ }
     ensures number { λ r. ⌜ r ≡ emitNumber (heldOf (now (held .entry))) (length (now (text .entry))) ⌝ }
     ensures text { λ r. ⌜ now (text .exit) ≡ after r (textWith Kind.Emit (heldOf (now (held .entry))) (now (text .entry))) (now (text .entry)) ⌝ }
     ensures result { λ r. ⌜ now (result .exit) ≡ after r (resultWith Kind.Emit (heldOf (now (held .entry)))) (now (result .entry)) ⌝ }
@@ -102,7 +131,7 @@ fn emit_held(held: &[u8], text: &mut [u8], result: &mut [u64; RESULT_LENGTH]) ->
     if !holds_all(held) {
         return refuse(Refusal::EmitTooEarly);
     }
-    let key = key_from_body(&held[KEY_BODY..VARIANT_PLACE]);
+    let key = held_key(held);
     let variant = variant_from_body(&held[VARIANT_BODY..ENTRY_PLACE]);
     let entry = entry_from_body(&held[ENTRY_BODY..HELD_LENGTH]);
     emit_values(key, variant, entry, text, result)
@@ -145,18 +174,18 @@ fn keep_record(
 
 // The key that a state write alters.
 fn key_or_defaults(held: &[u8]) -> Key
-    requires { ⌜ length (now held) ≡ 113 ⌝ }
+    requires { ⌜ length (now held) ≡ heldLength ⌝ }
     ensures { λ r. ⌜ r ≡ keyOrDefaults (heldOf (now (held .entry))) ⌝ }
 {
-    if part_held(Kind::Key, held[KEY_PLACE], &held[KEY_BODY..VARIANT_PLACE]) {
-        return key_from_body(&held[KEY_BODY..VARIANT_PLACE]);
+    if holds_key(held) {
+        return held_key(held);
     }
     defaults()
 }
 
 // A state write: the record of the altered key, over the key's part of the held bytes, which is their front.
 fn alter_key(bytes: &[u8], held: &mut [u8], applied: &mut [u64; APPLIED_LENGTH]) -> u64
-    requires { ⌜ (length (now held) ≡ 113) × (recordLength Kind.State ≤ length (now bytes)) ⌝ }
+    requires { ⌜ (length (now held) ≡ heldLength) × (recordLength Kind.State ≤ length (now bytes)) ⌝ }
     ensures number { λ r. ⌜ r ≡ 0 ⌝ }
     ensures held { λ _. ⌜ now (held .exit) ≡ heldWith Kind.State (now (bytes .entry)) (now (held .entry)) ⌝ }
     ensures applied { λ _. ⌜ now (applied .exit) ≡ recordNumbers Kind.State ++ noResult ⌝ }
@@ -170,7 +199,7 @@ fn alter_key(bytes: &[u8], held: &mut [u8], applied: &mut [u64; APPLIED_LENGTH])
 
 // An emit record.
 fn emit_record(held: &[u8], text: &mut [u8], applied: &mut [u64; APPLIED_LENGTH]) -> u64
-    requires { ⌜ length (now held) ≡ 113 ⌝ }
+    requires { ⌜ length (now held) ≡ heldLength ⌝ }
     ensures number { λ r. ⌜ r ≡ emitNumber (heldOf (now (held .entry))) (length (now (text .entry))) ⌝ }
     ensures text { λ r. ⌜ now (text .exit) ≡ after r (textWith Kind.Emit (heldOf (now (held .entry))) (now (text .entry))) (now (text .entry)) ⌝ }
     ensures applied { λ r. ⌜ now (applied .exit) ≡ after r (appliedNumbers Kind.Emit (heldOf (now (held .entry)))) (now (applied .entry)) ⌝ }
@@ -189,7 +218,7 @@ fn emit_record(held: &[u8], text: &mut [u8], applied: &mut [u64; APPLIED_LENGTH]
 // the text's length, mask, rows, lookups and warnings, which are 0 for a record that is held. After a state write the held key is the altered one.
 #[no_mangle]
 pub extern "C" fn yuzuknoll_apply(
-    held: &mut [u8; 113],
+    held: &mut [u8; HELD_LENGTH],
     bytes: &[u8],
     text: &mut [u8],
     applied: &mut [u64; APPLIED_LENGTH],

@@ -11,17 +11,18 @@ use wire::KIND_ENTRY;
 use wire::KIND_KEY;
 use wire::KIND_STATE;
 use wire::KIND_VARIANT;
+use wire::KIND_WIDE_KEY;
 use wire::Kind;
 use wire::body_length;
 use wire::reader::entry_from_body;
 use wire::reader::state_from_body;
 ghost use Prim.Native.Nat.{_≤_};
 ghost use mathlib.Core.Path.{_≡_};
-ghost use mathlib.Core.Bool.{cond};
+ghost use mathlib.Core.Bool.{cond, false, true};
 ghost use lib.Dec.{ltb};
 ghost use lib.ListN.{length};
 ghost use Rattle.values.specs.Flags.{stageFlagsBad};
-ghost use Rattle.wire.specs.Bodies.{bodyLength, keyFromBody};
+ghost use Rattle.wire.specs.Bodies.{bodyLength, keyFromBody, keyKind};
 ghost use Rattle.wire.specs.Reading.{bodyNumber, byKind, recordNumber};
 
 // The lowest flag bit without a meaning: bit 2 of a stage, bit 6 of a variant.
@@ -32,12 +33,14 @@ const UNUSED_VARIANT_FLAG: u8 = 64;
 // Where a key's body has its specular byte, and a variant's its flags.
 const SPECULAR_AT: usize = 56;
 
+const WIDE_SPECULAR_AT: usize = 72;
+
 const VARIANT_FLAGS_AT: usize = 18;
 
-// The flags of a stage are the last of its seven bytes.
+// The flags of a stage are the last of its bytes, of which there are seven.
 fn key_flags_bad(body: &[u8]) -> bool
     requires { ⌜ bodyLength Kind.Key ≤ length (now body) ⌝ }
-    ensures { λ r. ⌜ r ≡ stageFlagsBad (keyFromBody (now (body .entry)) .stages) ⌝ }
+    ensures { λ r. ⌜ r ≡ stageFlagsBad (keyFromBody false (now (body .entry)) .stages) ⌝ }
 {
     (UNUSED_STAGE_FLAG <= body[6])
         | ((UNUSED_STAGE_FLAG <= body[13])
@@ -49,17 +52,46 @@ fn key_flags_bad(body: &[u8]) -> bool
                                 | (UNUSED_STAGE_FLAG <= body[55])))))))
 }
 
-pub(crate) fn key_number(body: &[u8]) -> u64
-    requires { ⌜ bodyLength Kind.Key ≤ length (now body) ⌝ }
-    ensures { λ r. ⌜ r ≡ bodyNumber Kind.Key (now (body .entry)) ⌝ }
+// A stage of a wide key has nine.
+fn wide_key_flags_bad(body: &[u8]) -> bool
+    requires { ⌜ bodyLength Kind.WideKey ≤ length (now body) ⌝ }
+    ensures { λ r. ⌜ r ≡ stageFlagsBad (keyFromBody true (now (body .entry)) .stages) ⌝ }
 {
-    if key_flags_bad(body) {
+    (UNUSED_STAGE_FLAG <= body[8])
+        | ((UNUSED_STAGE_FLAG <= body[17])
+            | ((UNUSED_STAGE_FLAG <= body[26])
+                | ((UNUSED_STAGE_FLAG <= body[35])
+                    | ((UNUSED_STAGE_FLAG <= body[44])
+                        | ((UNUSED_STAGE_FLAG <= body[53])
+                            | ((UNUSED_STAGE_FLAG <= body[62])
+                                | (UNUSED_STAGE_FLAG <= body[71])))))))
+}
+
+// Of a key whose stages may have bad flags, with its specular byte.
+fn key_cause(flags_bad: bool, specular: u8) -> u64
+    ensures { λ r. ⌜ r ≡ cond «flags_bad» 3 (cond (ltb 1 specular) 4 0) ⌝ }
+{
+    if flags_bad {
         return refuse(Refusal::StageFlags);
     }
-    if 1 < body[SPECULAR_AT] {
+    if 1 < specular {
         return refuse(Refusal::SpecularAdd);
     }
     ACCEPTED
+}
+
+pub(crate) fn narrow_key_number(body: &[u8]) -> u64
+    requires { ⌜ bodyLength Kind.Key ≤ length (now body) ⌝ }
+    ensures { λ r. ⌜ r ≡ bodyNumber Kind.Key (now (body .entry)) ⌝ }
+{
+    key_cause(key_flags_bad(body), body[SPECULAR_AT])
+}
+
+pub(crate) fn wide_key_number(body: &[u8]) -> u64
+    requires { ⌜ bodyLength Kind.WideKey ≤ length (now body) ⌝ }
+    ensures { λ r. ⌜ r ≡ bodyNumber Kind.WideKey (now (body .entry)) ⌝ }
+{
+    key_cause(wide_key_flags_bad(body), body[WIDE_SPECULAR_AT])
 }
 
 pub(crate) fn variant_number(body: &[u8]) -> u64
@@ -105,11 +137,12 @@ pub(crate) fn kind_number(kind: Kind, body: &[u8]) -> u64
         return refuse(Refusal::CutShort);
     }
     match kind {
-        Kind::Key => key_number(body),
+        Kind::Key => narrow_key_number(body),
         Kind::Variant => variant_number(body),
         Kind::Entry => entry_number(body),
         Kind::Emit => ACCEPTED,
         Kind::State => state_number(body),
+        Kind::WideKey => wide_key_number(body),
     }
 }
 
@@ -123,6 +156,7 @@ fn byte_number(byte: u8, body: &[u8]) -> u64
         KIND_ENTRY => kind_number(Kind::Entry, body),
         KIND_EMIT => kind_number(Kind::Emit, body),
         KIND_STATE => kind_number(Kind::State, body),
+        KIND_WIDE_KEY => kind_number(Kind::WideKey, body),
         _ => refuse(Refusal::UnknownKind),
     }
 }

@@ -1,8 +1,9 @@
 //! Emission from the bodies of a key, a variant and an entry.
 use crate::ACCEPTED;
 use crate::check::entry_number;
-use crate::check::key_number;
+use crate::check::narrow_key_number;
 use crate::check::variant_number;
+use crate::check::wide_key_number;
 use crate::refuse;
 use emission::Answer;
 use emission::Emitted;
@@ -11,15 +12,27 @@ use values::Entry;
 use values::Key;
 use values::Variant;
 use wire::reader::entry_from_body;
-use wire::reader::key_from_body;
+use wire::reader::narrow_key;
 use wire::reader::variant_from_body;
+use wire::reader::wide_key;
 ghost use mathlib.Core.Path.{_≡_};
+ghost use mathlib.Core.Bool.{false, true};
 ghost use lib.ListN.{length};
 ghost use Rattle.values.specs.Admitted.{Admitted};
+ghost use Rattle.values.specs.Flags.{stageFlagsBad};
 ghost use Rattle.shader.specs.Results.{emissionNumber, emittedOf, textOf};
-ghost use Rattle.wire.specs.Bodies.{keyFromBody};
+ghost use Rattle.wire.specs.Bodies.{entryFromBody, keyFromBody, variantFromBody};
 ghost use Rattle.yuzuknoll.specs.Lent.{ReportedDemand3, after, atFront, resultNumbers};
 ghost use Rattle.yuzuknoll.specs.Emitting.{bodiesNumber, bodiesResult, bodiesText};
+
+// How many bytes the bodies have.
+const KEY_LENGTH: usize = 58;
+
+const WIDE_KEY_LENGTH: usize = 74;
+
+const VARIANT_LENGTH: usize = 19;
+
+const ENTRY_LENGTH: usize = 33;
 
 // Length, mask, rows, lookups, and the four warnings.
 pub(crate) const RESULT_LENGTH: usize = 8;
@@ -62,24 +75,20 @@ pub(crate) fn emit_values(
     }
 }
 
-// Writes the text of a key, a variant and an entry to the front of text, and its length, mask, rows, lookups and warnings to result.
-#[no_mangle]
-pub extern "C" fn yuzuknoll_emit(
-    key: &[u8; 58],
-    variant: &[u8; 19],
-    entry: &[u8; 33],
+// From a key that is free of 3, and from the bodies of a variant and an entry.
+fn emit_parts(
+    key: Key,
+    variant: &[u8; VARIANT_LENGTH],
+    entry: &[u8; ENTRY_LENGTH],
     text: &mut [u8],
     result: &mut [u64; RESULT_LENGTH],
 ) -> u64
-    ensures number { λ r. ⌜ r ≡ bodiesNumber (now (key .entry)) (now (variant .entry)) (now (entry .entry)) (length (now (text .entry))) ⌝ }
-    ensures text { λ r. ⌜ now (text .exit) ≡ after r (atFront (bodiesText (now (key .entry)) (now (variant .entry)) (now (entry .entry))) (now (text .entry))) (now (text .entry)) ⌝ }
-    ensures result { λ r. ⌜ now (result .exit) ≡ after r (bodiesResult (now (key .entry)) (now (variant .entry)) (now (entry .entry))) (now (result .entry)) ⌝ }
-    ensures names { λ r. ⌜ (r ≡ 0 → ReportedDemand3 (keyFromBody (now (key .entry))) (now (text .exit)) (now (result .exit))) ⌝ }
+    requires { ⌜ stageFlagsBad (key .stages) ≡ false ⌝ }
+    ensures number { λ r. ⌜ r ≡ emissionNumber key (variantFromBody (now (variant .entry))) (entryFromBody (now (entry .entry))) (length (now (text .entry))) ⌝ }
+    ensures text { λ r. ⌜ now (text .exit) ≡ after r (atFront (textOf key (variantFromBody (now (variant .entry))) (entryFromBody (now (entry .entry)))) (now (text .entry))) (now (text .entry)) ⌝ }
+    ensures result { λ r. ⌜ now (result .exit) ≡ after r (resultNumbers (emittedOf key (variantFromBody (now (variant .entry))) (entryFromBody (now (entry .entry))))) (now (result .entry)) ⌝ }
+    ensures names { λ r. ⌜ (r ≡ 0 → ReportedDemand3 key (now (text .exit)) (now (result .exit))) ⌝ }
 {
-    let key_refused = key_number(key);
-    if key_refused != ACCEPTED {
-        return key_refused;
-    }
     let variant_refused = variant_number(variant);
     if variant_refused != ACCEPTED {
         return variant_refused;
@@ -88,8 +97,49 @@ pub extern "C" fn yuzuknoll_emit(
     if entry_refused != ACCEPTED {
         return entry_refused;
     }
-    let k = key_from_body(key);
     let v = variant_from_body(variant);
     let e = entry_from_body(entry);
-    emit_values(k, v, e, text, result)
+    emit_values(key, v, e, text, result)
+}
+
+// Writes the text of a key, a variant and an entry to the front of text, and its length, mask, rows, lookups and warnings to result.
+#[no_mangle]
+pub extern "C" fn yuzuknoll_emit(
+    key: &[u8; KEY_LENGTH],
+    variant: &[u8; VARIANT_LENGTH],
+    entry: &[u8; ENTRY_LENGTH],
+    text: &mut [u8],
+    result: &mut [u64; RESULT_LENGTH],
+) -> u64
+    ensures number { λ r. ⌜ r ≡ bodiesNumber false (now (key .entry)) (now (variant .entry)) (now (entry .entry)) (length (now (text .entry))) ⌝ }
+    ensures text { λ r. ⌜ now (text .exit) ≡ after r (atFront (bodiesText false (now (key .entry)) (now (variant .entry)) (now (entry .entry))) (now (text .entry))) (now (text .entry)) ⌝ }
+    ensures result { λ r. ⌜ now (result .exit) ≡ after r (bodiesResult false (now (key .entry)) (now (variant .entry)) (now (entry .entry))) (now (result .entry)) ⌝ }
+    ensures names { λ r. ⌜ (r ≡ 0 → ReportedDemand3 (keyFromBody false (now (key .entry))) (now (text .exit)) (now (result .exit))) ⌝ }
+{
+    let refused = narrow_key_number(key);
+    if refused != ACCEPTED {
+        return refused;
+    }
+    emit_parts(narrow_key(key), variant, entry, text, result)
+}
+
+// The same of a wide key.
+#[no_mangle]
+pub extern "C" fn yuzuknoll_emit_wide(
+    key: &[u8; WIDE_KEY_LENGTH],
+    variant: &[u8; VARIANT_LENGTH],
+    entry: &[u8; ENTRY_LENGTH],
+    text: &mut [u8],
+    result: &mut [u64; RESULT_LENGTH],
+) -> u64
+    ensures number { λ r. ⌜ r ≡ bodiesNumber true (now (key .entry)) (now (variant .entry)) (now (entry .entry)) (length (now (text .entry))) ⌝ }
+    ensures text { λ r. ⌜ now (text .exit) ≡ after r (atFront (bodiesText true (now (key .entry)) (now (variant .entry)) (now (entry .entry))) (now (text .entry))) (now (text .entry)) ⌝ }
+    ensures result { λ r. ⌜ now (result .exit) ≡ after r (bodiesResult true (now (key .entry)) (now (variant .entry)) (now (entry .entry))) (now (result .entry)) ⌝ }
+    ensures names { λ r. ⌜ (r ≡ 0 → ReportedDemand3 (keyFromBody true (now (key .entry))) (now (text .exit)) (now (result .exit))) ⌝ }
+{
+    let refused = wide_key_number(key);
+    if refused != ACCEPTED {
+        return refused;
+    }
+    emit_parts(wide_key(key), variant, entry, text, result)
 }

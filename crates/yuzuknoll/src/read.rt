@@ -5,6 +5,7 @@ use wire::KIND_ENTRY;
 use wire::KIND_KEY;
 use wire::KIND_STATE;
 use wire::KIND_VARIANT;
+use wire::KIND_WIDE_KEY;
 use wire::Kind;
 use wire::kind_byte;
 use wire::record_length;
@@ -23,6 +24,7 @@ pub(crate) fn kind_in(bytes: &[u8]) -> Kind
         KIND_VARIANT => Kind::Variant,
         KIND_ENTRY => Kind::Entry,
         KIND_STATE => Kind::State,
+        KIND_WIDE_KEY => Kind::WideKey,
         _ => Kind::Emit,
     }
 }

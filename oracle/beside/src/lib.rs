@@ -8,23 +8,23 @@ use std::fmt::Debug;
 use oraclelib::{
     Outcome,
     program::Record,
-    records::{ENTRY, KEY, Kind, Refusal, Triple, VARIANT},
+    records::{ENTRY, KEY, Kind, Refusal, Triple, VARIANT, WIDE_KEY},
 };
 use yuzuknoll::raw::{self, Applied, Emitted};
 
 pub use lent::Lent;
 
-/// The key, the variant and the entry of a triple, as `yuzuknoll_emit` takes them.
+/// The key, the variant and the entry of a triple, as the archive takes them; the key is of the kind that has so many bytes.
 #[derive(Clone, Copy, Debug, PartialEq, Eq)]
-pub struct Bodies {
-    pub key: [u8; KEY],
+pub struct Bodies<const K: usize = KEY> {
+    pub key: [u8; K],
     pub variant: [u8; VARIANT],
     pub entry: [u8; ENTRY],
 }
 
-impl Bodies {
+impl<const K: usize> Bodies<K> {
     /// # Panics
-    /// Never: a body has the size of its kind.
+    /// If the key is of the other kind.
     #[must_use]
     pub fn of(triple: &Triple) -> Self {
         let sized = "a body of its size";
@@ -34,11 +34,24 @@ impl Bodies {
             entry: triple.entry.body().try_into().expect(sized),
         }
     }
+}
 
-    /// What `yuzuknoll_emit` returns.
+/// Bodies that a function of the archive emits.
+pub trait Emit: Copy + Debug + PartialEq {
+    /// What the function returns.
     #[must_use]
-    pub fn emit(&self, text: &mut [u8], result: &mut Emitted) -> u64 {
+    fn emit(&self, text: &mut [u8], result: &mut Emitted) -> u64;
+}
+
+impl Emit for Bodies<KEY> {
+    fn emit(&self, text: &mut [u8], result: &mut Emitted) -> u64 {
         raw::emit(&self.key, &self.variant, &self.entry, text, result)
+    }
+}
+
+impl Emit for Bodies<WIDE_KEY> {
+    fn emit(&self, text: &mut [u8], result: &mut Emitted) -> u64 {
+        raw::emit_wide(&self.key, &self.variant, &self.entry, text, result)
     }
 }
 

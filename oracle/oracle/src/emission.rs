@@ -1,4 +1,5 @@
-//! One emission by the Rust: 01's values in its types, and 01's result from what it gives.
+//! One emission: by the Rust, with 01's values in its types and 01's result from what it gives; of stages with three operands, which the Rust does not
+//! have, by 02's rules.
 
 use ffcore::dxso::{
     emit::{VariantFlags, VariantKey},
@@ -11,6 +12,7 @@ use crate::{
         CUBE, DEPTH, DEPTH_FETCH, FETCH4, FETCH4_ALPHA, FLAT_SHADE, FOG_SOURCE_W, Key, LOD_BIAS,
         POINT_SPRITE, RAW_DEPTH_RED, SAMPLE_MASK, SRGB_WRITE, Stage, Triple, VOLUME, Variant,
     },
+    rules, stand_in,
     warnings::Warnings,
 };
 
@@ -33,12 +35,43 @@ pub struct Outcome {
     pub warnings: Warnings,
 }
 
-/// Emits a triple that is free of causes.
+/// Emits a triple that is free of causes. A key of kind 6 without three operands gives what the Rust makes of its stages of seven bytes.
 ///
 /// # Panics
 /// If the Rust warns of something that 01 does not number.
 #[must_use]
 pub fn emit(triple: &Triple) -> Outcome {
+    if rules::has_three_operands(&triple.key) {
+        predicted(triple)
+    } else {
+        by_the_rust(triple)
+    }
+}
+
+/// The outcome by 01's and 02's rules on the key; around the lines of stages the text is the Rust's.
+///
+/// # Panics
+/// If the Rust warns of something that 01 does not number.
+#[must_use]
+pub fn predicted(triple: &Triple) -> Outcome {
+    let Triple { key, variant, .. } = triple;
+    let text = stand_in::text(triple);
+    let lookups = rules::marks(key).count_ones();
+    Outcome {
+        text,
+        mask: rules::mask(key),
+        rows: rules::rows(key),
+        lookups: u8::try_from(lookups).expect("at most eight"),
+        warnings: rules::warnings(key, variant),
+    }
+}
+
+/// The outcome that the Rust gives, which knows no argument 0.
+///
+/// # Panics
+/// If the Rust warns of something that 01 does not number.
+#[must_use]
+pub fn by_the_rust(triple: &Triple) -> Outcome {
     let key = rust_key(&triple.key);
     mtld3d_shared::take_logged();
     let text = emit_ps_ff_named(&key, rust_variant(&triple.variant), triple.entry.name());

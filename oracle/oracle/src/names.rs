@@ -1,4 +1,8 @@
-//! 01's rules of names and declarations, as far as the count of lookups wants them.
+//! 01's rules of names and declarations in a text, and demand 3: that names, rows and lookups of a text fit.
+
+use std::collections::BTreeSet;
+
+use crate::{emission::Outcome, words};
 
 const TYPES: [&str; 10] = [
     "Varyings",
@@ -13,14 +17,81 @@ const TYPES: [&str; 10] = [
     "depth2d<float>",
 ];
 
+/// A listed name where it stands.
+#[derive(Clone, Copy, Debug, PartialEq, Eq)]
+pub struct Occurrence<'a> {
+    pub name: &'a str,
+    pub declared: bool,
+    /// The decimal number in square brackets behind a use of `ps_c`.
+    pub row: Option<usize>,
+}
+
+/// The listed names of a text, in their order.
+pub fn occurrences(text: &str) -> impl Iterator<Item = Occurrence<'_>> {
+    let start = counted_from(text);
+    let listed = names(text, start).filter(|(_, name)| words::is_listed(name));
+    listed.map(move |(at, name)| {
+        let declared = declared(&text[start..at]);
+        let is_row = name == "ps_c" && !declared;
+        Occurrence {
+            name,
+            declared,
+            row: row(&text[at + name.len()..]).filter(|_| is_row),
+        }
+    })
+}
+
 /// The stages whose `t` is declared in `text`, in the order of the declarations.
 #[must_use]
 pub fn declared_texels(text: &str) -> Vec<u8> {
-    let start = counted_from(text);
-    names(text, start)
-        .filter(|&(at, _)| declared(&text[start..at]))
-        .filter_map(|(_, name)| texel(name))
+    occurrences(text)
+        .filter(|o| o.declared)
+        .filter_map(|o| texel(o.name))
         .collect()
+}
+
+/// Whether an outcome obeys demand 3, with these stages marked for a lookup.
+///
+/// # Errors
+/// What it does not obey.
+pub fn demand_3(outcome: &Outcome, marks: u16) -> Result<(), String> {
+    let mut declared = BTreeSet::new();
+    for Occurrence {
+        name,
+        declared: declares,
+        row,
+    } in occurrences(&outcome.text)
+    {
+        if declares && !declared.insert(name) {
+            return Err(format!("{name} is declared twice"));
+        }
+        if !declares && !declared.contains(name) {
+            return Err(format!("{name} is used before a declaration"));
+        }
+        if row.is_some_and(|row| row >= outcome.rows.into()) {
+            return Err(format!("row {row:?} of {}", outcome.rows));
+        }
+    }
+    let texels = declared.iter().filter_map(|name| texel(name));
+    let texels: Vec<u8> = texels.collect();
+    let marked: Vec<u8> = (0..16).filter(|n| marks >> n & 1 != 0).collect();
+    if texels != marked {
+        return Err(format!("texels {texels:?} where {marked:?} are marked"));
+    }
+    if texels.len() != usize::from(outcome.lookups) {
+        return Err(format!("{} lookups of {texels:?}", outcome.lookups));
+    }
+    if u32::from(outcome.lookups) > outcome.mask.count_ones() {
+        return Err(format!("more lookups than in mask {}", outcome.mask));
+    }
+    Ok(())
+}
+
+/// The decimal number in square brackets at the front.
+fn row(behind: &str) -> Option<usize> {
+    let (number, _) = behind.strip_prefix('[')?.split_once(']')?;
+    let digits = number.bytes().all(|b| b.is_ascii_digit());
+    number.parse().ok().filter(|_| digits)
 }
 
 /// Where the `(` behind the entry stands, on the line that begins with `fragment`.

@@ -25,7 +25,7 @@ impl Record {
     #[must_use]
     pub const fn kind(&self) -> Kind {
         match self {
-            Self::Key(_) => Kind::Key,
+            Self::Key(key) => key.kind(),
             Self::Variant(_) => Kind::Variant,
             Self::Entry(_) => Kind::Entry,
             Self::Emit => Kind::Emit,
@@ -63,7 +63,7 @@ impl Record {
         let kind = Kind::of(kind).ok_or(Refusal::Kind)?;
         let body = rest.get(..kind.size()).ok_or(Refusal::Cut)?;
         let record = match kind {
-            Kind::Key => Self::Key(Key::from_body(body)),
+            Kind::Key | Kind::WideKey => Self::Key(Key::from_body(body)),
             Kind::Variant => Self::Variant(Variant::from_body(body)),
             Kind::Entry => Self::Entry(Entry::from_body(body)),
             Kind::Emit => Self::Emit,

@@ -4,12 +4,19 @@ use crate::{states::WRITE, words};
 
 pub const STAGES: usize = 8;
 pub const KEY: usize = STAGES * STAGE + 2;
+/// A key of kind 6.
+pub const WIDE_KEY: usize = STAGES * WIDE_STAGE + 2;
 pub const VARIANT: usize = 19;
 pub const ENTRY: usize = NAME + 1;
 /// The three bodies behind one another.
 pub const TRIPLE: usize = KEY + VARIANT + ENTRY;
+/// The three bodies with a key of kind 6.
+pub const WIDE_TRIPLE: usize = WIDE_KEY + VARIANT + ENTRY;
 
 const STAGE: usize = 7;
+const WIDE_STAGE: usize = 9;
+/// What an argument 0 is before any write.
+const DEFAULT_ARG0: u8 = 1;
 const NAME: usize = 32;
 const MASKS: usize = 7;
 
@@ -97,6 +104,7 @@ pub enum Kind {
     Entry,
     Emit,
     State,
+    WideKey,
 }
 
 impl Kind {
@@ -108,6 +116,7 @@ impl Kind {
             3 => Some(Self::Entry),
             4 => Some(Self::Emit),
             5 => Some(Self::State),
+            6 => Some(Self::WideKey),
             _ => None,
         }
     }
@@ -121,22 +130,52 @@ impl Kind {
             Self::Entry => ENTRY,
             Self::Emit => 0,
             Self::State => WRITE,
+            Self::WideKey => WIDE_KEY,
         }
     }
 }
 
-/// An operation and its arguments 1 and 2.
+/// An operation and its arguments. Those of a key of kind 6, and no others, have an argument 0.
 #[derive(Clone, Copy, Debug, Default, PartialEq, Eq)]
 pub struct Combiner {
     pub op: u8,
     pub arg1: u8,
     pub arg2: u8,
+    pub arg0: Option<u8>,
 }
 
 impl Combiner {
     #[must_use]
     pub const fn new(op: u8, arg1: u8, arg2: u8) -> Self {
-        Self { op, arg1, arg2 }
+        Self {
+            op,
+            arg1,
+            arg2,
+            arg0: None,
+        }
+    }
+
+    /// Of a key of kind 6.
+    #[must_use]
+    pub const fn wide(op: u8, arg0: u8, arg1: u8, arg2: u8) -> Self {
+        Self {
+            op,
+            arg1,
+            arg2,
+            arg0: Some(arg0),
+        }
+    }
+
+    const fn widened(self) -> Self {
+        let arg0 = match self.arg0 {
+            Some(arg0) => arg0,
+            None => DEFAULT_ARG0,
+        };
+        Self::wide(self.op, arg0, self.arg1, self.arg2)
+    }
+
+    const fn narrowed(self) -> Self {
+        Self::new(self.op, self.arg1, self.arg2)
     }
 }
 
@@ -165,21 +204,50 @@ impl Stage {
         self.flags & TO_TEMP != 0
     }
 
-    fn from_bytes(b: &[u8]) -> Self {
+    const fn widened(self) -> Self {
         Self {
-            color: Combiner::new(b[0], b[1], b[2]),
-            alpha: Combiner::new(b[3], b[4], b[5]),
-            flags: b[6],
+            color: self.color.widened(),
+            alpha: self.alpha.widened(),
+            flags: self.flags,
         }
     }
 
-    fn bytes(self) -> [u8; STAGE] {
+    const fn narrowed(self) -> Self {
+        Self {
+            color: self.color.narrowed(),
+            alpha: self.alpha.narrowed(),
+            flags: self.flags,
+        }
+    }
+
+    /// Of seven bytes, or of nine with argument 0 of colour and of alpha in front of the flags.
+    fn from_bytes(bytes: &[u8]) -> Self {
+        match *bytes {
+            [c, c1, c2, a, a1, a2, flags] => Self {
+                color: Combiner::new(c, c1, c2),
+                alpha: Combiner::new(a, a1, a2),
+                flags,
+            },
+            [c, c1, c2, a, a1, a2, c0, a0, flags] => Self {
+                color: Combiner::wide(c, c0, c1, c2),
+                alpha: Combiner::wide(a, a0, a1, a2),
+                flags,
+            },
+            _ => panic!("a stage has seven bytes or nine"),
+        }
+    }
+
+    fn bytes(self) -> Vec<u8> {
         let Self {
             color: c,
             alpha: a,
             flags,
         } = self;
-        [c.op, c.arg1, c.arg2, a.op, a.arg1, a.arg2, flags]
+        let mut out = vec![c.op, c.arg1, c.arg2, a.op, a.arg1, a.arg2];
+        out.extend(c.arg0);
+        out.extend(a.arg0);
+        out.push(flags);
+        out
     }
 }
 
@@ -206,14 +274,44 @@ impl Key {
         }
     }
 
+    /// Whether it is of kind 6.
+    #[must_use]
+    pub const fn is_wide(&self) -> bool {
+        self.stages[0].color.arg0.is_some()
+    }
+
+    #[must_use]
+    pub const fn kind(&self) -> Kind {
+        if self.is_wide() {
+            Kind::WideKey
+        } else {
+            Kind::Key
+        }
+    }
+
+    /// The key of kind 6 that a write of an argument 0 makes of it: 1 where there is none.
+    #[must_use]
+    pub fn widened(&self) -> Self {
+        let stages = self.stages.map(Stage::widened);
+        Self { stages, ..*self }
+    }
+
+    /// The key of kind 1 that is left without the arguments 0.
+    #[must_use]
+    pub fn narrowed(&self) -> Self {
+        let stages = self.stages.map(Stage::narrowed);
+        Self { stages, ..*self }
+    }
+
     /// # Panics
-    /// Unless `body` has the size of a key.
+    /// Unless `body` has the size of a key of either kind.
     #[must_use]
     pub fn from_body(body: &[u8]) -> Self {
-        assert_eq!(body.len(), KEY);
-        let (stages, rest) = body.split_at(STAGES * STAGE);
+        assert!(matches!(body.len(), KEY | WIDE_KEY));
+        let (stages, rest) = body.split_at(body.len() - 2);
+        let size = stages.len() / STAGES;
         Self {
-            stages: std::array::from_fn(|i| Stage::from_bytes(&stages[i * STAGE..])),
+            stages: std::array::from_fn(|i| Stage::from_bytes(&stages[i * size..][..size])),
             specular: rest[0],
             projected: rest[1],
         }
@@ -374,7 +472,7 @@ impl Triple {
     /// Unless `bodies` has the size of the three bodies.
     #[must_use]
     pub fn from_bodies(bodies: &[u8]) -> Self {
-        let (key, rest) = bodies.split_at(KEY);
+        let (key, rest) = bodies.split_at(bodies.len() - VARIANT - ENTRY);
         let (variant, entry) = rest.split_at(VARIANT);
         Self {
             key: Key::from_body(key),
@@ -391,7 +489,7 @@ impl Triple {
     /// The three records.
     #[must_use]
     pub fn records(&self) -> Vec<u8> {
-        let key = record(Kind::Key, &self.key.body());
+        let key = record(self.key.kind(), &self.key.body());
         let variant = record(Kind::Variant, &self.variant.body());
         let entry = record(Kind::Entry, &self.entry.body());
         [key, variant, entry].concat()

@@ -1,4 +1,4 @@
-//! 01's rules about mask, rows, lookups and warnings, read on key and variant alone; warnings by stage, as 02 has them.
+//! 01's rules about mask, rows, lookups and warnings, read on key and variant alone; warnings by stage and stages of three operands, as 02 has them.
 //!
 //! Nothing here looks at the Rust or at a text, so that each can be compared with the other.
 
@@ -8,20 +8,17 @@ use crate::{
 };
 
 const CURRENT: u8 = 1;
-const TEXTURE: u8 = 2;
+pub(crate) const TEXTURE: u8 = 2;
 const FACTOR: u8 = 3;
-const TEMP: u8 = 5;
-const CONSTANT: u8 = 6;
+pub(crate) const TEMP: u8 = 5;
+pub(crate) const CONSTANT: u8 = 6;
+
+/// MULTIPLYADD and LERP.
+pub const THREE_OPERANDS: [u8; 2] = [25, 26];
 
 #[must_use]
 pub const fn selector(argument: u8) -> u8 {
     argument & 0x0f
-}
-
-/// Whether an op has a text of its own.
-#[must_use]
-pub const fn has_text(op: u8) -> bool {
-    matches!(op, 2..=16 | 18..=21 | 24)
 }
 
 const fn is_bump_op(op: u8) -> bool {
@@ -35,15 +32,38 @@ pub fn active(key: &Key) -> &[Stage] {
     &key.stages[..count]
 }
 
+/// Whether a stage of the key, active or not, has an op of three operands and an argument 0.
+#[must_use]
+pub fn has_three_operands(key: &Key) -> bool {
+    let mut stages = key.stages.iter();
+    stages.any(|s| s.color.third().is_some() || s.alpha.third().is_some())
+}
+
 impl Combiner {
+    /// Argument 0 where it counts: of ops 25 and 26 in a key of kind 6.
+    fn third(self) -> Option<u8> {
+        self.arg0.filter(|_| THREE_OPERANDS.contains(&self.op))
+    }
+
+    /// Whether the op has a text of its own.
+    pub(crate) fn has_text(self) -> bool {
+        matches!(self.op, 2..=16 | 18..=21 | 24) || self.third().is_some()
+    }
+
+    /// Arguments 1 and 2, and argument 0 where it counts, whether the op reads them or not.
+    fn arguments(self) -> impl Iterator<Item = u8> {
+        [self.arg1, self.arg2].into_iter().chain(self.third())
+    }
+
     /// Whether the op reads an argument with this selector.
     fn reads(self, wanted: u8) -> bool {
         let first = self.op != 3 && selector(self.arg1) == wanted;
         let second = self.op != 2 && selector(self.arg2) == wanted;
-        self.op != 1 && (first || second)
+        let third = self.third().is_some_and(|a| selector(a) == wanted);
+        self.op != 1 && (first || second || third)
     }
 
-    fn falls_back(self, textured: bool) -> bool {
+    pub(crate) fn falls_back(self, textured: bool) -> bool {
         !textured && self.reads(TEXTURE)
     }
 
@@ -53,8 +73,8 @@ impl Combiner {
             3 => vec![self.arg2],
             13 if !textured => vec![self.arg2],
             2 => vec![self.arg1],
-            op if !has_text(op) => vec![self.arg1],
-            _ => vec![self.arg1, self.arg2],
+            _ if !self.has_text() => vec![self.arg1],
+            _ => self.arguments().collect(),
         }
     }
 
@@ -71,17 +91,15 @@ impl Combiner {
     }
 
     fn selects(self, wanted: u8) -> bool {
-        [self.arg1, self.arg2]
-            .into_iter()
-            .any(|a| selector(a) == wanted)
+        self.arguments().any(|a| selector(a) == wanted)
     }
 
     fn has_unknown_selector(self) -> bool {
-        selector(self.arg1) > CONSTANT || selector(self.arg2) > CONSTANT
+        self.arguments().any(|a| selector(a) > CONSTANT)
     }
 
     fn has_unknown_modifier(self) -> bool {
-        (self.arg1 | self.arg2) & 0xc0 != 0
+        self.arguments().any(|a| a & 0xc0 != 0)
     }
 }
 
@@ -90,7 +108,7 @@ impl Stage {
         is_bump_op(self.color.op) && !self.color.falls_back(self.textured())
     }
 
-    fn alpha_from_color(self) -> bool {
+    pub(crate) fn alpha_from_color(self) -> bool {
         self.color.op == 24 && !self.color.falls_back(self.textured())
     }
 
@@ -108,7 +126,7 @@ impl Stage {
         (Some(self.color), alpha.then_some(self.alpha))
     }
 
-    fn expressions_read(self, wanted: u8) -> bool {
+    pub(crate) fn expressions_read(self, wanted: u8) -> bool {
         let reads = |c: Combiner| c.expression_reads(self.textured(), wanted);
         let (color, alpha) = self.expressions();
         color.is_some_and(reads) || alpha.is_some_and(reads)
@@ -181,7 +199,7 @@ pub fn warnings(key: &Key, variant: &Variant) -> Warnings {
     };
     for (i, stage) in active(key).iter().enumerate() {
         for combiner in stage.resolved() {
-            warnings.op |= u8::from(!has_text(combiner.op)) << i;
+            warnings.op |= u8::from(!combiner.has_text()) << i;
             warnings.selector |= u8::from(combiner.has_unknown_selector()) << i;
             warnings.modifier |= u8::from(combiner.has_unknown_modifier()) << i;
         }

@@ -13,8 +13,10 @@ pub const COLOR_ARG2: u8 = 3;
 pub const ALPHA_OP: u8 = 4;
 pub const ALPHA_ARG1: u8 = 5;
 pub const ALPHA_ARG2: u8 = 6;
+pub const COLOR_ARG0: u8 = 26;
+pub const ALPHA_ARG0: u8 = 27;
 pub const RESULT_ARG: u8 = 28;
-pub const TYPES: [u8; 8] = [
+pub const TYPES: [u8; 10] = [
     TEXTURE_BOUND,
     COLOR_OP,
     COLOR_ARG1,
@@ -22,6 +24,8 @@ pub const TYPES: [u8; 8] = [
     ALPHA_OP,
     ALPHA_ARG1,
     ALPHA_ARG2,
+    COLOR_ARG0,
+    ALPHA_ARG0,
     RESULT_ARG,
 ];
 
@@ -71,6 +75,12 @@ impl StateWrite {
         }
     }
 
+    /// Whether it makes a key one of kind 6.
+    #[must_use]
+    pub const fn widens(&self) -> bool {
+        matches!(self.state, COLOR_ARG0 | ALPHA_ARG0)
+    }
+
     /// A key with this write done, which is free of causes.
     ///
     /// # Panics
@@ -78,6 +88,9 @@ impl StateWrite {
     #[must_use]
     pub fn done(&self, mut key: Key) -> Key {
         assert_eq!(self.cause(), None);
+        if self.widens() {
+            key = key.widened();
+        }
         let stage = &mut key.stages[usize::from(self.stage)];
         let byte = self.value as u8;
         match self.state {
@@ -87,6 +100,8 @@ impl StateWrite {
             ALPHA_OP => stage.alpha.op = byte,
             ALPHA_ARG1 => stage.alpha.arg1 = byte,
             ALPHA_ARG2 => stage.alpha.arg2 = byte,
+            COLOR_ARG0 => stage.color.arg0 = Some(byte),
+            ALPHA_ARG0 => stage.alpha.arg0 = Some(byte),
             RESULT_ARG => set(&mut stage.flags, TO_TEMP, self.value == TEMP),
             _ => set(&mut stage.flags, TEXTURED, self.value == 1),
         }

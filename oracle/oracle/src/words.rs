@@ -57,9 +57,15 @@ pub fn all() -> Vec<String> {
 
 #[must_use]
 pub fn is_reserved(name: &str) -> bool {
+    is_listed(name) || OTHERS.contains(&name)
+}
+
+/// Whether it is one of 01's listed names.
+#[must_use]
+pub fn is_listed(name: &str) -> bool {
     let numbered = |word: &&str| {
         let number = name.strip_prefix(word);
         number.is_some_and(|number| matches!(number.as_bytes(), [b'0'..=b'7']))
     };
-    SINGLES.contains(&name) || OTHERS.contains(&name) || NUMBERED.iter().any(numbered)
+    SINGLES.contains(&name) || NUMBERED.iter().any(numbered)
 }

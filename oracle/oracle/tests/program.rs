@@ -35,7 +35,7 @@ fn no_input_ends_without_texts() {
 
 #[test]
 fn cut_bodies_are_refused_with_1() {
-    for (kind, size) in [(1, 58), (2, 19), (3, 33), (5, 6)] {
+    for (kind, size) in [(1, 58), (2, 19), (3, 33), (5, 6), (6, 74)] {
         for left in 0..size {
             assert_eq!(refused(kind, &vec![0; left]), "refused 1 at 0\n");
             assert_eq!(refused(kind, &vec![0xff; left]), "refused 1 at 0\n");
@@ -46,7 +46,7 @@ fn cut_bodies_are_refused_with_1() {
 
 #[test]
 fn other_kinds_are_refused_with_2() {
-    for kind in (0..=255).filter(|kind| !(1..=5).contains(kind)) {
+    for kind in (0..=255).filter(|kind| !(1..=6).contains(kind)) {
         assert_eq!(refused(kind, &[]), "refused 2 at 0\n");
         assert_eq!(refused(kind, &[0xff; 60]), "refused 2 at 0\n");
     }

@@ -6,7 +6,9 @@ use oraclelib::{
     TEXT_CAP, emit,
     generate::{self, Rng},
     program,
-    records::{Entry, Key, Kind, STAGES, Stage, TEXTURED, TO_TEMP, Triple, Variant, record},
+    records::{
+        Combiner, Entry, Key, Kind, STAGES, Stage, TEXTURED, TO_TEMP, Triple, Variant, record,
+    },
     states::{self, RESULT_ARG, StateWrite, TEXTURE_BOUND, TYPES},
     worked,
 };
@@ -55,7 +57,7 @@ fn refused_with_10_then_11_then_12() {
                     0 => [0, 1].contains(&value),
                     _ => value <= 255,
                 };
-                let known = (1..=6).contains(&state) || state == 28 || state == 0;
+                let known = matches!(state, 0..=6 | 26..=28);
                 let expected = match (stage > 7, known, named) {
                     (true, ..) => "refused 10 at 0\n",
                     (_, false, _) => "refused 11 at 0\n",
@@ -112,6 +114,8 @@ fn get(stage: &Stage, state: u8) -> u32 {
         4 => stage.alpha.op,
         5 => stage.alpha.arg1,
         6 => stage.alpha.arg2,
+        26 => stage.color.arg0.unwrap_or(1),
+        27 => stage.alpha.arg0.unwrap_or(1),
         28 => 1 + 4 * (stage.flags >> 1),
         _ => stage.flags & 1,
     };
@@ -128,17 +132,19 @@ fn map_of(key: &Key) -> BTreeMap<(u8, u8), u32> {
 fn lists_leave_the_last_values() {
     let mut rng = Rng::new(9);
     for length in (0..40).chain([100, 1_000, 5_000]) {
-        let mut key = if rng.one_in(2) {
-            states::defaults()
-        } else {
-            generate::key(&mut rng)
+        let mut key = match rng.below(3) {
+            0 => states::defaults(),
+            1 => generate::key(&mut rng),
+            _ => generate::wide_key(&mut rng),
         };
         let before = key;
         let mut map = map_of(&key);
         for _ in 0..length {
             let write = generate::write(&mut rng);
             map.insert((write.stage, write.state), write.value);
+            let wide = key.is_wide() || [26, 27].contains(&write.state);
             key = write.done(key);
+            assert_eq!(key.is_wide(), wide);
         }
         assert_eq!(map_of(&key), map);
         assert_eq!(
@@ -147,6 +153,58 @@ fn lists_leave_the_last_values() {
         );
         assert!(key.cause().is_none());
     }
+}
+
+/// 'Types 26 and 27 ... set them and make the key a kind 6 key; their default is 1, also in a kind 1 key so turned'.
+#[test]
+fn argument_0_makes_a_key_of_kind_6() {
+    let write = |stage, state, value| StateWrite {
+        stage,
+        state,
+        value,
+    };
+    let mut body = vec![4, 2, 1, 2, 2, 1, 1, 1, 0];
+    for stage in 1..8 {
+        body.extend([1, 2, 1, 1, 2, 1, 1, if stage == 7 { 6 } else { 1 }, 0]);
+    }
+    body.extend([0, 0]);
+    assert_eq!(write(7, 27, 6).done(states::defaults()).body(), body);
+    body[6] = 3;
+    let twice = write(0, 26, 3).done(write(7, 27, 6).done(states::defaults()));
+    assert_eq!(twice.body(), body);
+}
+
+/// LERP has no text before such a write, has it afterwards, and only a key record of kind 1 takes it away, with every argument 0.
+#[test]
+fn only_a_key_of_kind_1_turns_back() {
+    let lerp = Key::of(&[Stage {
+        color: Combiner::new(26, 0, 4),
+        alpha: Combiner::new(1, 0, 0),
+        flags: 0,
+    }]);
+    let mut wide = lerp.widened();
+    wide.stages[0].color.arg0 = Some(4);
+    let key = record(Kind::Key, &lerp.body());
+    let emit = vec![Kind::Emit as u8];
+    let input = [
+        key.clone(),
+        emitting(),
+        // The value that it has by default, behind the cascade's end.
+        write(7, 26, 1),
+        emit.clone(),
+        write(0, 26, 4),
+        emit.clone(),
+        key,
+        emit.clone(),
+        write(5, 27, 0),
+        emit,
+    ]
+    .concat();
+    let texts = [lerp, lerp.widened(), wide, lerp, lerp.widened()].map(text_of);
+    assert!(texts[0].contains("current = float4((in.color0).rgb, (current).a);"));
+    assert!(texts[1].contains("(current * in.color0 + (1.0 - current) * in.color1)"));
+    assert!(texts[2].contains("(in.color1 * in.color0 + (1.0 - in.color1) * in.color1)"));
+    assert_eq!(printed(&input), format!("{}end 5\n", texts.concat()));
 }
 
 #[test]

@@ -7,8 +7,9 @@ use native.Mathlib.Omega.{arith}
 use borrow.Author.Needs.{needs}
 use lib.ListN.{length, length-map}
 use lib.Seq.{length-take-le}
+use Rattle.text.specs.Text.{flat}
 use Rattle.text.proofs.Laws.{keeps}
-use Rattle.shader.specs.Results.{textOf}
+use Rattle.shader.specs.Whole.{wholeText}
 use Rattle.shader.proofs.Length.{at-most}
 use Rattle.emission.proofs.Answers.{placed, copied}
 use Rattle.emission.proofs.put_text.Statement.{statement}
@@ -16,7 +17,7 @@ use Rattle.emission.proofs.put_text.Tie as tie
 
 module _ (s : tie.Start) where
   abbrev text : List ℕ
-  text = textOf (s .args .k) (s .args .v) (s .args .e)
+  text = flat (wholeText (s .args .k) (s .args .v) (s .args .e))
 
   -- the stages and the name of a value have the lengths of their types
   short : length text ≤ 16384

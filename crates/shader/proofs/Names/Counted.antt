@@ -11,7 +11,6 @@ use Rattle.shader.specs.Output.{flatShade, srgbWrite, sampleMask, pointS
 use Rattle.values.specs.Entries.{nameOf}
 use Rattle.shader.specs.Whole.{varyingsText, srgbHelperText, fragmentText, frontText, stageInText, parametersText, bodyText, wholeText}
 use Rattle.values.specs.Entries.{startsName, continuesName, all, isIdentifier, entryGood}
-use Rattle.shader.specs.Results.{textOf}
 use Rattle.values.specs.declared.Variant.{Variant}
 use Rattle.values.specs.declared.Entry.{Entry}
 use Rattle.shader.specs.Names.{fromOpening, fromFragment, counted}
@@ -71,7 +70,7 @@ unfolding stageInText
 opening true x y = refl
 opening false x y = refl
 
-pub counted-body : (k : Key) (v : Variant) (e : Entry) → T (entryGood e) → counted (textOf k v e) ≡ flat (bodyText k v (active (k .stages)))
+pub counted-body : (k : Key) (v : Variant) (e : Entry) → T (entryGood e) → counted (flat (wholeText k v e)) ≡ flat (bodyText k v (active (k .stages)))
 unfolding wholeText bodyText parametersText
 counted-body k v e t =
     front-passed v (nameOf e ++ flat (bodyText k v (active (k .stages))))

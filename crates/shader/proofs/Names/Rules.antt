@@ -8,7 +8,7 @@ use lib.Dec.{T, eqb, eqb→eq, T-not}
 use lib.ListN.{length}
 use Rattle.combiners.specs.Codes.{disable, selectArg2, blendFactorAlpha, texture, factor, constant}
 use Rattle.combiners.specs.Combiners.{hasText, keepsFirst, keepsSecond}
-use Rattle.cascade.specs.Keys.{textured, toTemp, active, selects, reads, readsFirst, readsSecond, fallsBack, isBumpOp, bump, alphaFromColour, stagesWhere, maskOf, readsConstant, namesFactor, lastConstant, anyFactor, rowsOf}
+use Rattle.cascade.specs.Keys.{textured, toTemp, active, selects, third, some, reads, readsFirst, readsSecond, fallsBack, isBumpOp, bump, alphaFromColour, stagesWhere, maskOf, readsConstant, namesFactor, lastConstant, anyFactor, rowsOf}
 use Rattle.cascade.specs.Stages.{fallback, combined, alphaOf}
 use Rattle.cascade.specs.Reading.{keeps, readsTexelBy, alphaWritten, readsTemp, readsTexel, live, lined, marked, lookupsOf, luminance, readsBumpEnv}
 use Rattle.values.specs.declared.Combiner.{Combiner}
@@ -26,22 +26,26 @@ not-either false b s t = t
 keeps-reads : (k : ℕ) (tex : Bool) (c : Combiner) → T (not (eqb (c .op) disable)) → T (keeps k tex c) → T (reads k c)
 unfolding keeps reads
 keeps-reads k tex c n =
-    either (keepsFirst tex (c .op) && selects k (c .arg1)) (keepsSecond tex (c .op) && selects k (c .arg2))
+    either (keepsFirst tex (c .op) && selects k (c .arg1)) _
     (λ t. inl (readsFirst (c .op) && selects k (c .arg1)) _
     (both (readsFirst (c .op)) _
     (not-either (eqb (c .op) disable) _ n (neither-fst (eqb (c .op) selectArg2) _ (and-fst (keepsFirst tex (c .op)) _ t)))
     (and-snd (keepsFirst tex (c .op)) _ t)))
+    (either (keepsSecond tex (c .op) && selects k (c .arg2)) (third (selects k) c)
     (λ t. inr (readsFirst (c .op) && selects k (c .arg1)) _
+    (inl (readsSecond (c .op) && selects k (c .arg2)) _
     (both (readsSecond (c .op)) _
     (not-either (eqb (c .op) disable) _ n (and-snd (hasText (c .op)) _ (and-fst (keepsSecond tex (c .op)) _ t)))
-    (and-snd (keepsSecond tex (c .op)) _ t)))
+    (and-snd (keepsSecond tex (c .op)) _ t))))
+    (λ t. inr (readsFirst (c .op) && selects k (c .arg1)) _ (inr (readsSecond (c .op) && selects k (c .arg2)) _ t)))
 
-keeps-selects : (k : ℕ) (tex : Bool) (c : Combiner) → T (keeps k tex c) → T (selects k (c .arg1) || selects k (c .arg2))
+keeps-selects : (k : ℕ) (tex : Bool) (c : Combiner) → T (keeps k tex c) → T (some (selects k) c)
 unfolding keeps
 keeps-selects k tex c =
-    either (keepsFirst tex (c .op) && selects k (c .arg1)) (keepsSecond tex (c .op) && selects k (c .arg2))
-    (λ t. inl (selects k (c .arg1)) _ (and-snd (keepsFirst tex (c .op)) _ t))
-    (λ t. inr (selects k (c .arg1)) _ (and-snd (keepsSecond tex (c .op)) _ t))
+    either (keepsFirst tex (c .op) && selects k (c .arg1)) _ (λ t. inl (selects k (c .arg1)) _ (and-snd (keepsFirst tex (c .op)) _ t))
+    (either (keepsSecond tex (c .op) && selects k (c .arg2)) (third (selects k) c)
+    (λ t. inr (selects k (c .arg1)) _ (inl (selects k (c .arg2)) _ (and-snd (keepsSecond tex (c .op)) _ t)))
+    (λ t. inr (selects k (c .arg1)) _ (inr (selects k (c .arg2)) _ t)))
 
 -- what reads the texel has a texture
 read-bound : (tex : Bool) (c : Combiner) → T (not (eqb (c .op) disable)) → T (readsTexelBy tex c) → T tex
@@ -146,7 +150,7 @@ unfolding namesFactor
 colour-factor s =
     either (keeps factor (textured s) (s .colour)) (eqb (s .colour .op) blendFactorAlpha)
     (λ t. inr (eqb (s .colour .op) blendFactorAlpha || eqb (s .alpha .op) blendFactorAlpha) _
-    (inl (selects factor (s .colour .arg1) || selects factor (s .colour .arg2)) _ (keeps-selects factor (textured s) (s .colour) t)))
+    (inl (some (selects factor) (s .colour)) _ (keeps-selects factor (textured s) (s .colour) t)))
     (λ t. inl (eqb (s .colour .op) blendFactorAlpha || eqb (s .alpha .op) blendFactorAlpha) _
     (inl (eqb (s .colour .op) blendFactorAlpha) _ t))
 
@@ -156,7 +160,7 @@ unfolding namesFactor
 alpha-factor s n =
     either (keeps factor (textured s) (s .alpha)) (eqb (s .alpha .op) blendFactorAlpha)
     (λ t. inr (eqb (s .colour .op) blendFactorAlpha || eqb (s .alpha .op) blendFactorAlpha) _
-    (inr (selects factor (s .colour .arg1) || selects factor (s .colour .arg2)) _
+    (inr (some (selects factor) (s .colour)) _
     (both (not (eqb (s .alpha .op) disable)) _ n (keeps-selects factor (textured s) (s .alpha) t))))
     (λ t. inl (eqb (s .colour .op) blendFactorAlpha || eqb (s .alpha .op) blendFactorAlpha) _
     (inr (eqb (s .colour .op) blendFactorAlpha) _ t))

@@ -9,7 +9,7 @@ use lib.ListN.{length}
 use Rattle.text.specs.Text.{flat}
 use Rattle.combiners.specs.Codes.{bit, selector, blendFactorAlpha, texture, factor, temp, constant}
 use Rattle.combiners.specs.Arguments.{sourceOf, argOf, argText}
-use Rattle.combiners.specs.Combiners.{keepsFirst, keepsSecond, expressionText}
+use Rattle.combiners.specs.Combiners.{keepsFirst, keepsSecond, threeOperands, expressionText}
 use Rattle.combiners.specs.declared.Source.the-variants.{Diffuse, Current, Texture, Factor, Specular, Temp, Constant, White}
 use Rattle.combiners.specs.declared.Expression.{Expression}
 use Rattle.cascade.specs.Keys.{textured, toTemp, selects, fallsBack, bump, readsConstant, namesFactor, lastConstant, anyFactor}
@@ -23,7 +23,7 @@ use Rattle.shader.specs.Output.{lodBias}
 use Rattle.shader.specs.Whole.{stageLine, stagesText}
 use Rattle.values.specs.declared.Variant.{Variant}
 use Rattle.shader.specs.declared.Before.{Before}
-use Rattle.shader.proofs.Names.Truth.{and-snd, both, inl, inr, cond-cases}
+use Rattle.shader.proofs.Names.Truth.{true-of, and-snd, both, inl, inr, cond-cases}
 use Rattle.shader.proofs.Names.Check.{Aim, Known, declaring, add-self}
 use Rattle.shader.proofs.Names.Frag.{Has, has-more, Reads, _⨾_, done, Frag, pick-frag, loses}
 use Rattle.shader.proofs.Names.Words.{the}
@@ -57,7 +57,7 @@ module _ {A : Aim} {K : Known} (base : Base K) (i : ℕ) (l : i < 8) where
   fallback-frag : (tex : Bool) → Frag A K (expressionText i tex fallback)
   unfolding expressionText
   fallback-frag tex =
-      op-frag base i l tex 2 _ _ (λ t. arg-frag base i l currentArg tt) (λ t. absurd t) (λ t. absurd (and-snd tex false t))
+      op-frag base i l tex 2 _ _ _ (λ t. arg-frag base i l currentArg tt) (λ t. absurd t) (λ t. absurd t) (λ t. absurd (and-snd tex false t))
       (λ t. absurd t)
 
   module _ (tex : Bool) (c : Combiner) (x : Readable A K i tex c) where
@@ -74,11 +74,16 @@ module _ {A : Aim} {K : Known} (base : Base K) (i : ℕ) (l : i < 8) where
     combined-frag : T (not (fallsBack tex c)) → Frag A K (expressionText i tex (combined tex c))
     unfolding expressionText keeps
     combined-frag n =
-        op-frag base i l tex (c .op) _ _
+        op-frag base i l tex (c .op) _ _ _
         (λ k. argument-frag n (c .arg1)
         (λ s t. inl (keepsFirst tex (c .op) && selects s (c .arg1)) _ (both (keepsFirst tex (c .op)) _ k t)))
         (λ k. argument-frag n (c .arg2)
-        (λ s t. inr (keepsFirst tex (c .op) && selects s (c .arg1)) _ (both (keepsSecond tex (c .op)) _ k t)))
+        (λ s t. inr (keepsFirst tex (c .op) && selects s (c .arg1)) _
+        (inl (keepsSecond tex (c .op) && selects s (c .arg2)) _ (both (keepsSecond tex (c .op)) _ k t))))
+        (λ k. rw (true-of (threeOperands (c .op)) k)
+        (argument-frag n (c .arg0)
+        (λ s t. inr (keepsFirst tex (c .op) && selects s (c .arg1)) _
+        (inr (keepsSecond tex (c .op) && selects s (c .arg2)) _ (both (threeOperands (c .op)) _ k t)))))
         (λ t. x .isTexel (both (not (fallsBack tex c)) _ n (inr (keeps texture tex c) _ t)))
         (λ t. x .isFactor (inr (keeps factor tex c) _ t))
 

@@ -7,7 +7,9 @@ use native.Mathlib.Omega.{arith}
 use lib.Dec.{T, lit≤}
 use lib.ListN.{length}
 use Rattle.text.specs.Text.{bytes, flat}
-use Rattle.cascade.specs.Keys.{active, rowsOf}
+use Rattle.cascade.specs.Keys.{rowsOf}
+use Rattle.cascade.specs.Effective.{effectiveStages, activeStages, effective}
+use Rattle.cascade.proofs.Narrowing.{effective-length}
 use Rattle.cascade.specs.Reading.{live, lookupsOf}
 use Rattle.values.specs.declared.Stage.{Stage}
 use Rattle.values.specs.declared.Key.{Key}
@@ -101,20 +103,20 @@ demand k v e l t =
       rowsCounted = checked-rows A (occurrences (textOf k v e)) holds;
       lookupsWritten = checked-lookups A (occurrences (textOf k v e)) holds;
       lookupsMarked = refl;
-      lookupsMasked = lookups-masked (live ss) 8 ss short (active-enabled (k .stages));
+      lookupsMasked = lookups-masked (live ss) 8 ss short (active-enabled (effectiveStages k));
     }
   where
     ss : List Stage
-    ss = active (k .stages)
+    ss = activeStages k
 
     A : Aim
     A = aim (pointSprite v) (rowsOf ss) (lookupsOf (live ss) ss)
 
     short : length ss ≤ 8
-    short = omega (arith, active-short (k .stages))
+    short = omega (arith, active-short (effectiveStages k), effective-length k)
 
     holds : Holds A nothing (occurrences (textOf k v e))
     holds =
-        rw (counted-body k v e t)
-        (subst (Holds A nothing) (scan-occurs (tokens (flat (bodyText k v ss))) [])
-        (body-holds k v ss short (active-enabled (k .stages))))
+        rw (counted-body (effective k) v e t)
+        (subst (Holds A nothing) (scan-occurs (tokens (flat (bodyText (effective k) v ss))) [])
+        (body-holds (effective k) v ss short (active-enabled (effectiveStages k))))

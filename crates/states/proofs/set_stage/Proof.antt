@@ -19,4 +19,6 @@ set-stage-spec =
     (λ c. rw (c .before .match .keys6))
     (λ c. rw (c .before .match .keys7, c .with-result .ensures))
     (λ c. rw (c .before .match .keys8, c .with-bound .ensures))
+    (λ c. rw (c .before .match .keys9))
+    (λ c. rw (c .before .match .keys10))
     (λ c. search (ne-eqb, c .match .rest)))

@@ -18,4 +18,6 @@ state-of-spec =
     (λ c. rw (c .match .keys6))
     (λ c. rw (c .before .match .keys7, c .result-arg-of .ensures))
     (λ c. rw (c .before .match .keys8))
+    (λ c. rw (c .match .keys9))
+    (λ c. rw (c .match .keys10))
     (λ c. search (ne-eqb, c .match .rest)))

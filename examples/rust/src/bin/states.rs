@@ -1,7 +1,8 @@
 //! From state writes to a text: a scene's list of texture stage state writes, as a program that draws with Direct3D 9 issues them, becomes a key.
 
 use yuzuknoll::{
-    Applied, Argument, Entry, Op, Record, Refusal, Session, State, StateWrite, TEXT_LENGTH, Variant,
+    Applied, Argument, Entry, HeldKey, Op, Record, Refusal, Session, State, StateWrite,
+    TEXT_LENGTH, Variant,
 };
 
 /// A state of Direct3D that no key has.
@@ -21,7 +22,7 @@ fn scene() -> [Result<StateWrite, Refusal>; 6] {
 }
 
 fn print_key(session: &Session) {
-    let key = session.key().unwrap_or_default();
+    let key = session.key().and_then(HeldKey::narrow).unwrap_or_default();
     for (stage, number) in key.stages[..3].iter().zip(0..) {
         let (colour, alpha) = (stage.colour, stage.alpha);
         println!(

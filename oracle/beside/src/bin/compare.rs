@@ -1,27 +1,30 @@
-//! `compare [SEED [COUNT]]`: yuzuknoll_emit beside the Rust, on the systematic triples and COUNT random ones.
+//! `compare [SEED [COUNT]]`: yuzuknoll_emit and yuzuknoll_emit_wide beside the Rust, and beside 02's rules where the Rust has no text, on the
+//! systematic triples, COUNT random ones with keys of kind 1, and half as many with keys of kind 6.
 //!
 //! Each accepted triple goes into four buffers: as long as its text, one byte shorter, longer, and of no byte (or any shorter one). Refused triples,
 //! and keys, variants and entries of any bytes, stand among the random ones. Every byte of the buffer is compared, in front of it and behind it too,
-//! with a pattern that the buffer holds before the call, and every number of the result with those that it holds before.
+//! with a pattern that the buffer holds before the call, and every number of the result with those that it holds before. In each text the names, rows
+//! and lookups must fit, by 01's rules of names (demand 3).
 //!
 //! First the comparison is shown to fail: wrong functions are put in the place of the archive's, and each must be found. Prints the counts and the
 //! first differences; the exit status is 1 if there is any, or if a wrong function passes.
 
 use std::process::ExitCode;
 
-use beside::{Answer, Bodies, Lent, Report, emitted};
+use beside::{Answer, Bodies, Emit, Lent, Report, emitted};
 use oraclelib::{
-    emit,
+    Outcome, emit,
     generate::{self, Rng},
-    records::{ENTRY, Refusal, TRIPLE, Triple},
-    words,
+    names::demand_3,
+    records::{ENTRY, KEY, Key, Refusal, TRIPLE, Triple, Variant, WIDE_KEY, WIDE_TRIPLE},
+    rules, words,
 };
 use yuzuknoll::{TEXT_LENGTH, raw::Emitted};
 
 const SEED: u64 = 1;
 const COUNT: u64 = 20_000;
-/// Random triples that each wrong function is given, always the same.
-const SELF_TEST: u64 = 2_000;
+/// Random triples of each kind that each wrong function is given, always the same.
+const SELF_TEST: u64 = 1_500;
 /// How many differences are printed.
 const SHOWN: u64 = 10;
 
@@ -50,11 +53,25 @@ fn main() -> ExitCode {
         run.accepted(&triple);
     }
     let systematic = run.triples;
-    run.random(count);
+    run.random(count, generate::triple);
+    let narrow = run.triples;
     println!(
-        "seed {seed}: {systematic} systematic and {} random triples, {} of them in a buffer of their length, as many one byte short, as many longer, as many of no byte or few",
-        run.triples - systematic,
-        run.triples,
+        "seed {seed}: {systematic} systematic and {} random triples with keys of kind 1",
+        narrow - systematic
+    );
+    for triple in generate::wide_systematic() {
+        run.accepted(&triple);
+    }
+    let systematic = run.triples - narrow;
+    run.random(count / 2, generate::wide_triple);
+    println!(
+        "{systematic} systematic and {} random triples with keys of kind 6, {} of them with three operands",
+        run.triples - narrow - systematic,
+        run.three_operands
+    );
+    println!(
+        "{} triples in a buffer of their length, as many one byte short, as many longer, as many of no byte or few",
+        run.triples
     );
     println!("refused:{}", run.refusals());
     println!(
@@ -64,24 +81,35 @@ fn main() -> ExitCode {
     ExitCode::from(u8::from(run.differences != 0 || !missed.is_empty()))
 }
 
-/// The function, or another in its place.
-trait Emit {
-    fn emit(&self, bodies: &Bodies, text: &mut [u8], result: &mut Emitted) -> u64;
+/// The two functions, or others in their place.
+trait Functions {
+    fn emit<const K: usize>(
+        &self,
+        bodies: &Bodies<K>,
+        text: &mut [u8],
+        result: &mut Emitted,
+    ) -> u64
+    where
+        Bodies<K>: Emit;
 }
 
 struct Archive;
 
-impl Emit for Archive {
-    fn emit(&self, bodies: &Bodies, text: &mut [u8], result: &mut Emitted) -> u64 {
+impl Functions for Archive {
+    fn emit<const K: usize>(&self, bodies: &Bodies<K>, text: &mut [u8], result: &mut Emitted) -> u64
+    where
+        Bodies<K>: Emit,
+    {
         bodies.emit(text, result)
     }
 }
 
-struct Run<'a> {
-    function: &'a dyn Emit,
+struct Run<'a, F> {
+    functions: &'a F,
     rng: Rng,
     out: Lent,
     triples: u64,
+    three_operands: u64,
     calls: u64,
     text: usize,
     bytes: usize,
@@ -90,13 +118,14 @@ struct Run<'a> {
     shown: u64,
 }
 
-impl<'a> Run<'a> {
-    fn new(function: &'a dyn Emit, seed: u64) -> Self {
+impl<'a, F: Functions> Run<'a, F> {
+    fn new(functions: &'a F, seed: u64) -> Self {
         Self {
-            function,
+            functions,
             rng: Rng::new(seed),
             out: Lent::new(),
             triples: 0,
+            three_operands: 0,
             calls: 0,
             text: 0,
             bytes: 0,
@@ -107,9 +136,9 @@ impl<'a> Run<'a> {
     }
 
     /// Random triples, and beside each one that is refused, or one of any bytes.
-    fn random(&mut self, count: u64) {
+    fn random(&mut self, count: u64, one: fn(&mut Rng) -> Triple) {
         for n in 0..count {
-            let triple = generate::triple(&mut self.rng);
+            let triple = one(&mut self.rng);
             self.accepted(&triple);
             match n % 4 {
                 0..3 => self.bad_value(triple),
@@ -118,13 +147,29 @@ impl<'a> Run<'a> {
         }
     }
 
-    /// A triple that is free of causes, in buffers of several lengths.
+    /// A triple that is free of causes.
     fn accepted(&mut self, triple: &Triple) {
         let o = emit(triple);
-        let accepted = Ok(emitted(&o));
+        self.triples += 1;
+        self.three_operands += u64::from(rules::has_three_operands(&triple.key));
+        if let Err(e) = demand_3(&o, rules::marks(&triple.key)) {
+            self.differ(|| println!("names of {triple:?}: {e}"));
+        }
+        if triple.key.is_wide() {
+            self.in_buffers(&Bodies::<WIDE_KEY>::of(triple), &o);
+        } else {
+            self.in_buffers(&Bodies::<KEY>::of(triple), &o);
+        }
+    }
+
+    /// In buffers of several lengths.
+    fn in_buffers<const K: usize>(&mut self, bodies: &Bodies<K>, o: &Outcome)
+    where
+        Bodies<K>: Emit,
+    {
+        let accepted = Ok(emitted(o));
         let too_long = Err(Refusal::LongText);
         let text = o.text.as_bytes();
-        let bodies = Bodies::of(triple);
         let longer = if self.rng.one_in(2) {
             TEXT_LENGTH.max(text.len())
         } else {
@@ -135,12 +180,11 @@ impl<'a> Run<'a> {
         } else {
             self.rng.below(text.len())
         };
-        self.triples += 1;
         self.text += 2 * text.len();
-        self.call(&bodies, text.len(), accepted, text);
-        self.call(&bodies, text.len() - 1, too_long, &[]);
-        self.call(&bodies, longer, accepted, text);
-        self.call(&bodies, few, too_long, &[]);
+        self.call(bodies, text.len(), accepted, text);
+        self.call(bodies, text.len() - 1, too_long, &[]);
+        self.call(bodies, longer, accepted, text);
+        self.call(bodies, few, too_long, &[]);
     }
 
     /// A triple with a cause of 3, 4, 5, 6 or 13, or several.
@@ -178,7 +222,12 @@ impl<'a> Run<'a> {
     /// A key, a variant or an entry of any bytes; of a key and a variant sometimes without those that are refused.
     fn any_bytes(&mut self, triple: &Triple) {
         let rng = &mut self.rng;
-        let bytes: Vec<u8> = (0..TRIPLE).map(|_| rng.byte()).collect();
+        let length = if triple.key.is_wide() {
+            WIDE_TRIPLE
+        } else {
+            TRIPLE
+        };
+        let bytes: Vec<u8> = (0..length).map(|_| rng.byte()).collect();
         let any = Triple::from_bodies(&bytes);
         let mut triple = *triple;
         match rng.below(5) {
@@ -207,18 +256,32 @@ impl<'a> Run<'a> {
     /// A triple with a cause, in a buffer of some length.
     fn refused(&mut self, triple: &Triple) {
         let length = self.rng.pick(&[0, 100, 3_000, TEXT_LENGTH]);
-        let cause = triple.cause().expect("a cause");
-        self.call(&Bodies::of(triple), length, Err(cause), &[]);
+        let cause = Err(triple.cause().expect("a cause"));
+        if triple.key.is_wide() {
+            self.call(&Bodies::<WIDE_KEY>::of(triple), length, cause, &[]);
+        } else {
+            self.call(&Bodies::<KEY>::of(triple), length, cause, &[]);
+        }
+    }
+
+    /// Counts a difference, and tells the first ones.
+    fn differ(&mut self, tell: impl Fn()) {
+        self.differences += 1;
+        if self.differences <= self.shown {
+            tell();
+        }
     }
 
     /// One call with a buffer of a length, and what must come of it.
-    fn call(
+    fn call<const K: usize>(
         &mut self,
-        bodies: &Bodies,
+        bodies: &Bodies<K>,
         length: usize,
         result: Result<Emitted, Refusal>,
         text: &[u8],
-    ) {
+    ) where
+        Bodies<K>: Emit,
+    {
         let start = self.rng.byte();
         self.out.fill(length, start);
         self.out.expect(0, text);
@@ -226,18 +289,18 @@ impl<'a> Run<'a> {
         let expected = Answer::of(result, before);
         let mut report = before;
         let lent = *bodies;
-        let number = self.function.emit(&lent, self.out.buffer(), &mut report);
+        let number = self.functions.emit(&lent, self.out.buffer(), &mut report);
         let got = Answer { number, report };
         self.calls += 1;
         self.bytes += length;
         self.refused[expected.number as usize] += 1;
         if got != expected || !self.out.as_expected() || lent != *bodies {
-            self.differences += 1;
-            if self.differences <= self.shown {
+            let difference = self.out.difference();
+            self.differ(|| {
                 println!("difference: {bodies:02x?}, a buffer of {length} bytes");
                 println!("  expected {expected:?}, got {got:?}");
-                println!("  the buffer {}", self.out.difference());
-            }
+                println!("  the buffer {difference}");
+            });
         }
     }
 
@@ -277,10 +340,16 @@ enum Wrong {
     SwapsSelectorAndModifier,
     ReportsTheFirstStageOnly,
     ReportsTheSum,
+    EmitsAWideKeyAsNarrow,
+    ExchangesArguments0,
+    ExchangesArguments1And2,
+    TakesCurrentForArgument0,
+    ReadsArgument0OfOtherOps,
+    WarnsOfThreeOperands,
 }
 
 impl Wrong {
-    const ALL: [Self; 22] = [
+    const ALL: [Self; 28] = [
         Self::Answers4Before3,
         Self::Answers5Before4,
         Self::Answers6Before5,
@@ -303,6 +372,12 @@ impl Wrong {
         Self::SwapsSelectorAndModifier,
         Self::ReportsTheFirstStageOnly,
         Self::ReportsTheSum,
+        Self::EmitsAWideKeyAsNarrow,
+        Self::ExchangesArguments0,
+        Self::ExchangesArguments1And2,
+        Self::TakesCurrentForArgument0,
+        Self::ReadsArgument0OfOtherOps,
+        Self::WarnsOfThreeOperands,
     ];
 }
 
@@ -310,20 +385,39 @@ impl Wrong {
 fn found(wrong: Wrong) -> bool {
     let mut run = Run::new(&wrong, SEED);
     run.shown = 0;
-    run.random(SELF_TEST);
+    run.random(SELF_TEST, generate::triple);
+    run.random(SELF_TEST, generate::wide_triple);
     run.differences != 0
 }
 
-impl Emit for Wrong {
-    fn emit(&self, bodies: &Bodies, text: &mut [u8], result: &mut Emitted) -> u64 {
-        let [.., specular, _] = bodies.key;
+impl Functions for Wrong {
+    fn emit<const K: usize>(&self, bodies: &Bodies<K>, text: &mut [u8], result: &mut Emitted) -> u64
+    where
+        Bodies<K>: Emit,
+    {
+        let specular = K - 2;
         let [.., flags] = bodies.variant;
-        let (specular_bad, flags_bad) = (specular > 1, flags > 63);
+        let (specular_bad, flags_bad) = (bodies.key[specular] > 1, flags > 63);
         if let Self::PassesSpecular = self {
             let mut passed = *bodies;
-            passed.key[56] %= 2;
+            passed.key[specular] %= 2;
             return Archive.emit(&passed, text, result);
         }
+        if let (Self::EmitsAWideKeyAsNarrow, WIDE_KEY) = (self, K) {
+            let key = Key::from_body(&bodies.key).narrowed().body();
+            let narrow = Bodies::<KEY> {
+                key: key.try_into().expect("a body of its size"),
+                variant: bodies.variant,
+                entry: bodies.entry,
+            };
+            return Archive.emit::<KEY>(&narrow, text, result);
+        }
+        let mut altered = *bodies;
+        if K == WIDE_KEY {
+            let stages = altered.key[..specular].chunks_exact_mut(9);
+            stages.for_each(|stage| self.alter_stage(stage));
+        }
+        let bodies = &altered;
         let mut wanted = *result;
         let number = Archive.emit(bodies, text, &mut wanted);
         let length = wanted.length as usize;
@@ -351,6 +445,11 @@ impl Emit for Wrong {
                 Self::ReportsTheRoom => wanted.length = text.len() as u64,
                 Self::ReportsTheMaskAsLookups => wanted.lookups = wanted.mask.count_ones().into(),
                 Self::DropsTheRows => wanted.rows = 0,
+                Self::WarnsOfThreeOperands => {
+                    let key = Key::from_body(&bodies.key);
+                    let warned = rules::warnings(&key.narrowed(), &Variant::default());
+                    wanted.op_warnings |= u64::from(warned.op);
+                }
                 _ => self.alter_warnings(&mut wanted),
             }
         }
@@ -360,6 +459,23 @@ impl Emit for Wrong {
 }
 
 impl Wrong {
+    /// The stage of a key of kind 6 that is emitted in the place of another.
+    fn alter_stage(self, stage: &mut [u8]) {
+        let &mut [c, _, _, a, _, _, c0, a0, _] = stage else {
+            unreachable!("nine bytes")
+        };
+        let three = |op: u8| rules::THREE_OPERANDS.contains(&op);
+        match self {
+            Self::ExchangesArguments0 => stage.swap(6, 7),
+            Self::ExchangesArguments1And2 if c == 26 => stage.swap(1, 2),
+            Self::ExchangesArguments1And2 if a == 26 => stage.swap(4, 5),
+            Self::TakesCurrentForArgument0 => stage[6..8].fill(1),
+            Self::ReadsArgument0OfOtherOps if !three(c) => stage[1] = c0,
+            Self::ReadsArgument0OfOtherOps if !three(a) => stage[4] = a0,
+            _ => {}
+        }
+    }
+
     fn alter_warnings(self, wanted: &mut Emitted) {
         let masks = [
             &mut wanted.op_warnings,

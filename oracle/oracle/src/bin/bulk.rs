@@ -1,5 +1,5 @@
 //! `bulk`: answers to many triples on standard input, each the bodies of a key, a variant and an
-//! entry, 110 bytes.
+//! entry, 110 bytes; after `--wide` 126, with keys of kind 6.
 //!
 //! An answer is eleven bytes: the text's length and the mask, two bytes each, low byte first, then
 //! rows, lookups, the four numbers of the warnings, and the cause; behind them the text. With a
@@ -21,21 +21,22 @@ use ffcore::dxso::{
 use oraclelib::{
     emission::{rust_key, rust_variant},
     emit,
-    records::{TRIPLE, Triple},
+    records::{TRIPLE, Triple, WIDE_TRIPLE},
+    rules,
 };
 
 fn main() -> std::io::Result<()> {
     let args: Vec<String> = std::env::args().skip(1).collect();
+    let args: Vec<&str> = args.iter().map(String::as_str).collect();
+    let (size, args) = match &args[..] {
+        ["--wide", rest @ ..] => (WIDE_TRIPLE, rest),
+        all => (TRIPLE, all),
+    };
     let mut input = Vec::new();
     std::io::stdin().lock().read_to_end(&mut input)?;
-    assert_eq!(
-        input.len() % TRIPLE,
-        0,
-        "standard input ends inside a triple"
-    );
-    let triples = input.chunks_exact(TRIPLE).map(Triple::from_bodies);
-    let args: Vec<&str> = args.iter().map(String::as_str).collect();
-    match args[..] {
+    assert_eq!(input.len() % size, 0, "standard input ends inside a triple");
+    let triples = input.chunks_exact(size).map(Triple::from_bodies);
+    match *args {
         [] => answer(triples, true),
         ["--nums"] => answer(triples, false),
         ["--bench", passes] => bench(triples, passes.parse().expect("--bench wants a number")),
@@ -75,6 +76,10 @@ struct Call {
 impl Call {
     fn of(triple: Triple) -> Self {
         assert_eq!(triple.cause(), None, "--bench wants accepted triples");
+        assert!(
+            !rules::has_three_operands(&triple.key),
+            "the Rust has no text of three operands"
+        );
         Self {
             key: rust_key(&triple.key),
             variant: rust_variant(&triple.variant),

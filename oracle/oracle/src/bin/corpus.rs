@@ -2,6 +2,7 @@
 //!
 //! `list SEED FILE`: a list of answers into FILE, and on standard output what it covers.
 //! `systematic`, `random SEED COUNT`, `everyday SEED COUNT`: triples for `bulk`, on standard output.
+//! `wide-systematic`, `wide-random SEED COUNT`: triples for `bulk --wide`.
 //! `streams SEED COUNT`: inputs for `oracle --multi`, on standard output.
 
 use std::io::Write;
@@ -28,6 +29,10 @@ fn main() -> std::io::Result<()> {
         }),
         ["everyday", seed, count] => made(number(seed), number(count), |rng| {
             generate::everyday(rng).bodies()
+        }),
+        ["wide-systematic"] => write(generate::wide_systematic().iter().map(|t| t.bodies())),
+        ["wide-random", seed, count] => made(number(seed), number(count), |rng| {
+            generate::wide_triple(rng).bodies()
         }),
         ["streams", seed, count] => made(number(seed), number(count), |rng| {
             blocks::block(&generate::any(rng))

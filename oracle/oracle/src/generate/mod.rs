@@ -6,6 +6,7 @@ mod random;
 mod rng;
 mod streams;
 mod systematic;
+mod wide;
 
 pub use random::{entry, everyday, key, name, triple, variant, write};
 pub use rng::Rng;
@@ -13,6 +14,7 @@ pub use streams::{
     Stream, accepted, any, bad_entry, bad_write, damaged, full, good_record, refused, reserved,
 };
 pub use systematic::{SAMPLING, bump_chain, systematic};
+pub use wide::{wide_key, wide_systematic, wide_triple};
 
 /// The ops that have a text.
 pub const TEXT_OPS: [u8; 20] = [

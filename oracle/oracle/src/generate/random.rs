@@ -84,7 +84,7 @@ fn op(rng: &mut Rng) -> u8 {
     }
 }
 
-fn argument(rng: &mut Rng) -> u8 {
+pub(super) fn argument(rng: &mut Rng) -> u8 {
     let known = [(8, 2), (4, 5), (4, 6), (3, 0), (3, 1), (2, 3), (2, 4)];
     let selector = if rng.percent(94) {
         rng.weighted(&known)

@@ -1,10 +1,10 @@
 //! Record streams: accepted ones, ones refused for a wanted reason, and damaged ones.
 
-use super::{Rng, entry, key, triple, variant, write};
+use super::{Rng, entry, key, triple, variant, wide_key, write};
 use crate::{
     emission::emit,
     program::{Held, INPUT_CAP, Record, TEXT_CAP},
-    records::{Entry, KEY, Key, Kind, Refusal, STAGES, Triple, record},
+    records::{Entry, Key, Kind, Refusal, STAGES, Triple, WIDE_KEY, record},
     states::{RESULT_ARG, StateWrite, TEXTURE_BOUND, TYPES},
     words,
 };
@@ -52,7 +52,7 @@ impl Builder {
     }
 
     fn push_triple(&mut self, triple: &Triple) {
-        self.push(Kind::Key, &triple.key.body());
+        self.push(triple.key.kind(), &triple.key.body());
         self.push(Kind::Variant, &triple.variant.body());
         self.push(Kind::Entry, &triple.entry.body());
     }
@@ -68,15 +68,17 @@ impl Builder {
 
 /// What an emit record needs; a state write stands for a key.
 const PARTS: [Kind; 3] = [Kind::Key, Kind::Variant, Kind::Entry];
-const SETTING: [Kind; 5] = [
+const SETTING: [Kind; 6] = [
     Kind::Key,
+    Kind::WideKey,
     Kind::Variant,
     Kind::Entry,
     Kind::State,
     Kind::State,
 ];
-const ANY: [Kind; 8] = [
+const ANY: [Kind; 9] = [
     Kind::Key,
+    Kind::WideKey,
     Kind::Variant,
     Kind::Entry,
     Kind::Emit,
@@ -98,6 +100,7 @@ fn record_count(rng: &mut Rng) -> usize {
 fn good_body(rng: &mut Rng, kind: Kind) -> Vec<u8> {
     match kind {
         Kind::Key => key(rng).body(),
+        Kind::WideKey => wide_key(rng).body(),
         Kind::Variant => variant(rng).body(),
         Kind::Entry => entry(rng).body(),
         Kind::Emit => Vec::new(),
@@ -152,8 +155,8 @@ fn behind_front(rng: &mut Rng, refusal: Refusal, bad: &[u8]) -> Stream {
 
 fn bad_record(rng: &mut Rng, refusal: Refusal) -> Vec<u8> {
     match refusal {
-        Refusal::StageFlag => record(Kind::Key, &bad_flag(rng).body()),
-        Refusal::Specular => record(Kind::Key, &bad_specular(rng).body()),
+        Refusal::StageFlag => key_record(&bad_flag(rng)),
+        Refusal::Specular => key_record(&bad_specular(rng)),
         Refusal::VariantFlag => {
             let mut bad = variant(rng);
             bad.flags |= rng.pick(&[0x40, 0x80, 0xc0]);
@@ -167,10 +170,23 @@ fn bad_record(rng: &mut Rng, refusal: Refusal) -> Vec<u8> {
         _ => {
             // A bad kind counts before the length, so the body is of any length.
             let above = unlike(rng, |b| Kind::of(b).is_some());
-            let kind = rng.weighted(&[(1, 0), (1, 6), (3, above)]);
+            let kind = rng.weighted(&[(1, 0), (1, 7), (3, above)]);
             let body = (0..rng.below(70)).map(|_| rng.byte());
             std::iter::once(kind).chain(body).collect()
         }
+    }
+}
+
+fn key_record(key: &Key) -> Vec<u8> {
+    record(key.kind(), &key.body())
+}
+
+/// A key of either kind.
+fn either_key(rng: &mut Rng) -> Key {
+    if rng.one_in(3) {
+        wide_key(rng)
+    } else {
+        key(rng)
     }
 }
 
@@ -179,14 +195,14 @@ fn bad_flag(rng: &mut Rng) -> Key {
     let mut key = if rng.one_in(2) {
         bad_specular(rng)
     } else {
-        key(rng)
+        either_key(rng)
     };
     key.stages[rng.below(STAGES)].flags |= 1 << (2 + rng.below(6));
     key
 }
 
 fn bad_specular(rng: &mut Rng) -> Key {
-    let mut key = key(rng);
+    let mut key = either_key(rng);
     key.specular = 2 + rng.below(254) as u8;
     key
 }
@@ -231,7 +247,7 @@ pub fn bad_write(rng: &mut Rng, refusal: Refusal) -> StateWrite {
     }
     if refusal == Refusal::StateType || refusal == Refusal::StageNumber && rng.one_in(2) {
         let any = unlike(rng, |b| TYPES.contains(&b));
-        bad.state = rng.pick(&[7, 8, 24, 26, 27, 29, 32, any, any, any]);
+        bad.state = rng.pick(&[7, 8, 24, 25, 29, 32, any, any, any]);
     }
     if refusal == Refusal::StageNumber {
         let any = 8 + rng.below(248) as u8;
@@ -312,9 +328,10 @@ fn nothing_held(rng: &mut Rng) -> Stream {
     rng.shuffle(&mut kinds);
     kinds.truncate(rng.below(3));
     if let Some(key) = kinds.iter().position(|&kind| kind == Kind::Key) {
-        match rng.below(3) {
+        match rng.below(4) {
             0 => kinds[key] = Kind::State,
             1 => kinds.push(Kind::State),
+            2 => kinds[key] = Kind::WideKey,
             _ => {}
         }
     }
@@ -366,7 +383,7 @@ pub fn full(rng: &mut Rng) -> Stream {
     let mut builder = Builder::default();
     let first = triple(rng);
     builder.push_triple(&first);
-    while builder.input.len() + 1 + KEY <= INPUT_CAP {
+    while builder.input.len() + 1 + WIDE_KEY <= INPUT_CAP {
         builder.push_any(rng, &SETTING);
     }
     while builder.input.len() < INPUT_CAP {

@@ -6,9 +6,9 @@ use crate::records::{
     Triple, Variant,
 };
 
-const KEPT: Combiner = Combiner::new(1, 0, 0);
-const SELECT: Combiner = Combiner::new(2, 0, 0);
-const PLAIN: Stage = Stage {
+pub(super) const KEPT: Combiner = Combiner::new(1, 0, 0);
+pub(super) const SELECT: Combiner = Combiner::new(2, 0, 0);
+pub(super) const PLAIN: Stage = Stage {
     color: SELECT,
     alpha: SELECT,
     flags: 0,
@@ -19,7 +19,7 @@ pub const SAMPLING: Stage = Stage {
     alpha: KEPT,
     flags: TEXTURED,
 };
-const TEMP_READER: Stage = Stage {
+pub(super) const TEMP_READER: Stage = Stage {
     color: Combiner::new(2, 5, 0),
     alpha: KEPT,
     flags: 0,
@@ -200,7 +200,7 @@ fn warnings() -> Vec<Key> {
     keys
 }
 
-fn bump_stage(op: u8, textured: bool) -> Stage {
+pub(super) fn bump_stage(op: u8, textured: bool) -> Stage {
     Stage {
         color: Combiner::new(op, 0, 1),
         alpha: KEPT,

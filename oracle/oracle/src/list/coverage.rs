@@ -10,7 +10,7 @@ use crate::{
         CUBE, Combiner, DEPTH, DEPTH_FETCH, FETCH4, FETCH4_ALPHA, Kind, LOD_BIAS, RAW_DEPTH_RED,
         Refusal, STAGES, Stage, Triple, VOLUME, Variant,
     },
-    rules,
+    rules::{self, THREE_OPERANDS},
     states::{RESULT_ARG, StateWrite, TEXTURE_BOUND},
 };
 
@@ -32,6 +32,7 @@ pub fn coverage(cases: &[Case]) -> String {
     refusals(&mut table, cases);
     writes(&mut table, cases);
     operations(&mut table, &places);
+    three_operands(&mut table, &places);
     lookups(&mut table, &places);
     settings(&mut table, &triples);
     table.0
@@ -117,8 +118,8 @@ fn writes(table: &mut Table, cases: &[Case]) {
     let first = || all.iter().filter(|(held, _)| held.key.is_none());
     let state = |(_, write): &(Held, StateWrite)| (write.stage, write.state);
     table.line("accepted state writes", all.len());
-    table.seen("state writes: stage, type", 64, all.iter().map(state));
-    table.seen("first writes: stage, type", 64, first().map(state));
+    table.seen("state writes: stage, type", 80, all.iter().map(state));
+    table.seen("first writes: stage, type", 80, first().map(state));
     table.seen(
         "state writes: flags held before, type 28 or 0, value",
         4 * 4,
@@ -152,6 +153,40 @@ fn combiners<'a>(
 /// A selector of 01, or 7 for all above 6.
 fn choice(argument: u8) -> u8 {
     rules::selector(argument).min(7)
+}
+
+/// Of keys of kind 6.
+fn three_operands(table: &mut Table, places: &[Place]) {
+    let wide = places.iter().filter(|p| p.triple.key.is_wide()).count();
+    table.line("active stages of keys of kind 6", wide);
+    for (role, alpha) in [("colour", false), ("alpha", true)] {
+        let all = || {
+            let combiners = combiners(places, alpha);
+            combiners.filter_map(|(p, c)| {
+                let third = c.arg0.filter(|_| THREE_OPERANDS.contains(&c.op))?;
+                Some((p.stage.textured(), c, third))
+            })
+        };
+        let arguments: [(&str, fn(Combiner, u8) -> u8); 3] = [
+            ("0", |_, third| third),
+            ("1", |c, _| c.arg1),
+            ("2", |c, _| c.arg2),
+        ];
+        for (name, argument) in arguments {
+            table.seen(
+                &format!("{role}: op 25 or 26, texture, argument {name} selects 0 to 6 or above"),
+                2 * 2 * 8,
+                all().map(|(textured, c, third)| (c.op, textured, choice(argument(c, third)))),
+            );
+        }
+        table.seen(
+            &format!("{role}: argument 0 of op 25 or 26, modifier"),
+            2 * MODIFIERS.len(),
+            all()
+                .map(|(_, c, third)| (c.op, third & 0xf0))
+                .filter(|(_, modifier)| MODIFIERS.contains(modifier)),
+        );
+    }
 }
 
 fn operations(table: &mut Table, places: &[Place]) {

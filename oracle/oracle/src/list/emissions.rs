@@ -7,6 +7,7 @@ use crate::{
         Combiner, Entry, Key, Kind, POINT_SPRITE, SRGB_WRITE, STAGES, Stage, TEXTURED, TO_TEMP,
         Triple, Variant, record,
     },
+    rules::THREE_OPERANDS,
     states::{CURRENT, RESULT_ARG, StateWrite, TEMP, TEXTURE_BOUND, TYPES},
     worked,
 };
@@ -55,6 +56,7 @@ pub fn inputs(rng: &mut Rng) -> Vec<Vec<u8>> {
         maker.warnings(),
         maker.random(),
         maker.everyday(),
+        maker.three_operands(),
     ];
     let alone = |triple| pack(&[triple]);
     let worked = worked::all().into_iter().flat_map(alone);
@@ -142,7 +144,7 @@ fn pack(triples: &[Triple]) -> Vec<Vec<u8>> {
         }
         let input = inputs.last_mut().expect("one begun");
         if held.is_none_or(|h| h.key != triple.key) {
-            input.extend(record(Kind::Key, &triple.key.body()));
+            input.extend(record(triple.key.kind(), &triple.key.body()));
         }
         if held.is_none_or(|h| h.variant != triple.variant) {
             input.extend(record(Kind::Variant, &triple.variant.body()));
@@ -351,6 +353,48 @@ impl Maker<'_> {
             triples.push(triple);
         }
         triples
+    }
+
+    /// Keys of kind 6: each op of three operands, in colour and in alpha, with selectors 0 to 6 and one above as each argument, with a texture and without;
+    /// every third stage of another op, which ignores argument 0; and random ones.
+    fn three_operands(&mut self) -> Vec<Triple> {
+        let mut stages = Vec::new();
+        for flags in [0, TEXTURED, TEXTURED | TO_TEMP] {
+            for op in THREE_OPERANDS {
+                for choice in 0..8 {
+                    for place in 0..3 {
+                        stages.push(self.three_operand_stage(op, choice, place, flags));
+                    }
+                    let mut other = self.three_operand_stage(op, choice, 0, flags);
+                    other.color.op = self.rng.pick(&TEXT_OPS);
+                    other.alpha.op = self.rng.pick(&TEXT_OPS);
+                    stages.push(other);
+                }
+            }
+        }
+        self.rng.shuffle(&mut stages);
+        let keys: Vec<Key> = stages
+            .chunks(STAGES)
+            .map(|stages| Key::of(stages).widened())
+            .collect();
+        let mut triples = self.triples(&keys);
+        triples.extend((0..4).map(|_| generate::wide_triple(self.rng)));
+        triples
+    }
+
+    /// A choice as one of the arguments of both combiners, and other arguments that are no texture, which would make a fallback.
+    fn three_operand_stage(&mut self, op: u8, choice: usize, place: usize, flags: u8) -> Stage {
+        let mut combiner = |op| {
+            let mut arguments = [0, 0, 0].map(|_| self.rng.pick(&[0, 1, 3, 4, 5, 6]));
+            arguments[place] = self.argument(choice);
+            let [arg0, arg1, arg2] = arguments;
+            Combiner::wide(op, arg0, arg1, arg2)
+        };
+        Stage {
+            color: combiner(op),
+            alpha: combiner(THREE_OPERANDS[0] + THREE_OPERANDS[1] - op),
+            flags,
+        }
     }
 
     fn random(&mut self) -> Vec<Triple> {

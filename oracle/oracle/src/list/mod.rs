@@ -9,7 +9,7 @@ use crate::{TEXT_CAP, blocks::block, generate::Rng, program};
 pub use coverage::coverage;
 
 /// The seed that the list is made from.
-pub const SEED: u64 = 497;
+pub const SEED: u64 = 437;
 
 #[derive(Clone, Debug, PartialEq, Eq)]
 pub struct Case {

@@ -30,7 +30,13 @@ pub fn inputs(rng: &mut Rng) -> Vec<Vec<u8>> {
 }
 
 /// The kinds of records that print nothing.
-const SILENT: [Kind; 4] = [Kind::Key, Kind::Variant, Kind::Entry, Kind::State];
+const SILENT: [Kind; 5] = [
+    Kind::Key,
+    Kind::Variant,
+    Kind::Entry,
+    Kind::State,
+    Kind::WideKey,
+];
 
 /// Eight of these, each behind up to nine records that print nothing.
 fn some_behind(rng: &mut Rng, bad: &[Vec<u8>]) -> Vec<Vec<u8>> {
@@ -69,10 +75,13 @@ fn kinds() -> Vec<Vec<u8>> {
     bad.map(|kind| vec![kind]).collect()
 }
 
-fn key_with(alter: impl Fn(&mut Key)) -> Vec<u8> {
-    let mut key = worked::z2().key;
-    alter(&mut key);
-    record(Kind::Key, &key.body())
+/// The record of a key of each kind.
+fn keys_with(alter: impl Fn(&mut Key)) -> [Vec<u8>; 2] {
+    let narrow = worked::z2().key;
+    [narrow, narrow.widened()].map(|mut key| {
+        alter(&mut key);
+        record(key.kind(), &key.body())
+    })
 }
 
 /// Number 3: each bit of each stage, and beside a bad specular byte.
@@ -80,9 +89,9 @@ fn flags() -> Vec<Vec<u8>> {
     let mut inputs = Vec::new();
     for stage in 0..STAGES {
         for bit in 2..8 {
-            inputs.push(key_with(|key| key.stages[stage].flags |= 1 << bit));
+            inputs.extend(keys_with(|key| key.stages[stage].flags |= 1 << bit));
         }
-        inputs.push(key_with(|key| {
+        inputs.extend(keys_with(|key| {
             key.stages[stage].flags = 0xff;
             key.specular = 2;
         }));
@@ -93,8 +102,8 @@ fn flags() -> Vec<Vec<u8>> {
 /// Number 4.
 fn speculars() -> Vec<Vec<u8>> {
     let bad = [2, 3, 4, 8, 16, 32, 64, 128, 254, 255];
-    bad.map(|specular| key_with(|key| key.specular = specular))
-        .to_vec()
+    bad.map(|specular| keys_with(|key| key.specular = specular))
+        .concat()
 }
 
 /// Number 5.
@@ -195,7 +204,9 @@ fn values() -> Vec<Vec<u8>> {
 
 /// Number 7: each choice of records that is not all three, in each order. A state write stands for a key.
 fn missing(rng: &mut Rng) -> Vec<Vec<u8>> {
-    let orders: [&[Kind]; 12] = [
+    let orders: [&[Kind]; 14] = [
+        &[Kind::WideKey],
+        &[Kind::Entry, Kind::WideKey],
         &[Kind::State],
         &[Kind::State, Kind::Variant],
         &[Kind::Entry, Kind::State],

@@ -1,4 +1,4 @@
--- The two ops and the four arguments are asked one by one.
+-- The two ops and the arguments of each combiner are asked one by one.
 use Rattle.cascade.specs.Keys.{namesFactor}
 use Rattle.cascade.proofs.keys.names_factor.Statement.{statement}
 use Rattle.cascade.proofs.keys.names_factor.Tie as tie

@@ -1,9 +1,33 @@
 -- Where no argument selects it none is read; where one does, the op says whether it reads that one.
+use mathlib.Core.Path.{sym, _∙_}
 use Rattle.cascade.specs.Keys.{reads}
-use Rattle.cascade.proofs.Guards.{missing}
+use Rattle.cascade.proofs.Guards.{none-of-three, and-false}
 use Rattle.cascade.proofs.keys.reads.Statement.{statement}
 use Rattle.cascade.proofs.keys.reads.Tie as tie
 
-pub reads-spec : {M : Type 1} → statement M
+returns : tie.Need-returns
 unfolding reads
-reads-spec = tie.close (tie.spec (λ c κs. tt) (λ c κs. tt) (λ c. search missing) (λ c κs. tt) (λ c κs. tt) (λ c. cc))
+returns c =
+    let s3 = c .before in
+    let s2 = s3 .before in
+    let s1 = s2 .before in
+    let n = none-of-three _ _ _ (c .if1 .taken) in
+    rw (sym (s1 .selects .ensures) ∙ n .0, sym (s2 .selects2 .ensures) ∙ n .1, sym (s3 .third-selects .ensures) ∙ n .2, and-false, and-false)
+
+returns-2 : tie.Need-returns-2
+unfolding reads
+returns-2 c =
+    let first = c .before in
+    let s3 = first .before .before in
+    let s2 = s3 .before in
+    let s1 = s2 .before in
+    rw (
+      s1 .selects .ensures,
+      s2 .selects2 .ensures,
+      s3 .third-selects .ensures,
+      first .reads-first .ensures,
+      c .reads-second .ensures,
+    )
+
+pub reads-spec : {M : Type 1} → statement M
+reads-spec = tie.close (tie.spec (λ c κs. tt) (λ c κs. tt) (λ c κs. tt) returns (λ c κs. tt) (λ c κs. tt) returns-2)

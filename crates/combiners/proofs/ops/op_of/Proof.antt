@@ -27,5 +27,7 @@ op-of-spec =
     (λ c. rw (c .match .keys18))
     (λ c. rw (c .match .keys19))
     (λ c. rw (c .match .keys20))
-    (λ c. search (texts, c .match .keys21))
+    (λ c. rw (c .match .keys21))
+    (λ c. rw (c .match .keys22))
+    (λ c. search (texts, c .match .keys23))
     (λ c. search (texts, c .match .rest)))

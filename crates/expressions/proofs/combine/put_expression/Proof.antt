@@ -12,15 +12,15 @@ use Rattle.expressions.proofs.Table.{in-form}
 use Rattle.expressions.proofs.combine.put_expression.Statement.{statement}
 use Rattle.expressions.proofs.combine.put_expression.Tie as tie
 
-module _ (i : ℕ) (t u : Text) (x y : Form) (l l′ : List ℕ) (a a′ : ℕ) where
-  of : x ≡ y → Wrote l a l′ a′ (formText i t u y) → Wrote l a l′ a′ (formText i t u x)
-  of = case (formText i t u) x y l l′ a a′
+module _ (i : ℕ) (t u v : Text) (x y : Form) (l l′ : List ℕ) (a a′ : ℕ) where
+  of : x ≡ y → Wrote l a l′ a′ (formText i t u v y) → Wrote l a l′ a′ (formText i t u v x)
+  of = case (formText i t u v) x y l l′ a a′
 
 returns-3 : tie.Need-returns-3
 returns-3 c =
     let s = c .before .before in
     let told = s .before .before .before in
-    in-form _ _ _ _ (told .before .before .form-of .ensures) (of _ _ _ _ _ _ _ _ _ (told .form .given .1) (s .put-both .ensures))
+    in-form _ _ _ _ (told .before .before .form-of .ensures) (of _ _ _ _ _ _ _ _ _ _ (told .form .given .1) (s .put-both .ensures))
 
 pub put-expression-spec : {M : Type 1} → statement M
 put-expression-spec =

@@ -5,7 +5,7 @@ use mathlib.Core.Path.{_≡_}
 use mathlib.Core.List.{List}
 use Rattle.text.specs.Text.{Text}
 use Rattle.text.specs.Buffer.{Wrote}
-use Rattle.text.proofs.Laws.{case, texts}
+use Rattle.text.proofs.Laws.{case, _⨾_}
 use Rattle.expressions.specs.declared.forms.Ending.{Ending}
 use Rattle.expressions.specs.Forms.{endingText}
 use Rattle.expressions.proofs.words.put_ending.Statement.{statement}
@@ -56,22 +56,22 @@ put-ending-spec =
     (λ c. search needs)
     (λ c κs. search needs)
     (λ c. cc)
-    (λ c. search (of, texts))
+    (λ c. search of)
     (λ c. cc)
-    (λ c. search (of, texts))
+    (λ c. search of)
     (λ c. cc)
-    (λ c. search (of, texts))
+    (λ c. search of)
     (λ c. cc)
-    (λ c. search (of, texts))
+    (λ c. search of)
     (λ c. cc)
-    (λ c. search (of, texts))
+    (λ c. search of)
     (λ c. cc)
-    (λ c. search (of, texts))
+    (λ c. search of)
     (λ c. cc)
-    (λ c. search (of, texts))
+    (λ c. search of)
     (λ c. cc)
-    (λ c. search (of, texts))
+    (λ c. search (of, _⨾_))
     (λ c. cc)
-    (λ c. search (of, texts))
+    (λ c. search (of, _⨾_))
     (λ c. cc)
-    (λ c. search (of, texts)))
+    (λ c. search of))

@@ -1,19 +1,19 @@
--- Each arm writes the words that it matched, with argument 1 in them where they name it.
+-- Each arm writes the words that it matched, with argument 0 or 1 in them where they name it.
 use borrow.Author.Needs.{needs}
 use Prim.Native.Nat.{ℕ}
 use mathlib.Core.Path.{_≡_}
 use mathlib.Core.List.{List}
 use Rattle.text.specs.Text.{Text}
 use Rattle.text.specs.Buffer.{Wrote}
-use Rattle.text.proofs.Laws.{case, texts}
+use Rattle.text.proofs.Laws.{case, _⨾_}
 use Rattle.expressions.specs.declared.forms.Joining.{Joining}
 use Rattle.expressions.specs.Forms.{joiningText}
 use Rattle.expressions.proofs.words.put_joining.Statement.{statement}
 use Rattle.expressions.proofs.words.put_joining.Tie as tie
 
-module _ (i : ℕ) (t : Text) (x y : Joining) (l l′ : List ℕ) (a a′ : ℕ) where
-  of : x ≡ y → Wrote l a l′ a′ (joiningText i t y) → Wrote l a l′ a′ (joiningText i t x)
-  of = case (joiningText i t) x y l l′ a a′
+module _ (i : ℕ) (t z : Text) (x y : Joining) (l l′ : List ℕ) (a a′ : ℕ) where
+  of : x ≡ y → Wrote l a l′ a′ (joiningText i t z y) → Wrote l a l′ a′ (joiningText i t z x)
+  of = case (joiningText i t z) x y l l′ a a′
 
 pub put-joining-spec : {M : Type 1} → statement M
 put-joining-spec =
@@ -58,25 +58,33 @@ put-joining-spec =
     (λ c. search needs)
     (λ c. search needs)
     (λ c κs. search needs)
+    (λ c. search needs)
+    (λ c. search needs)
+    (λ c κs. search needs)
+    (λ c κs. search needs)
+    (λ c. search needs)
+    (λ c κs. search needs)
     (λ c. cc)
-    (λ c. search (of, texts))
+    (λ c. search of)
     (λ c. cc)
-    (λ c. search (of, texts))
+    (λ c. search of)
     (λ c. cc)
-    (λ c. search (of, texts))
+    (λ c. search of)
     (λ c. cc)
-    (λ c. search (of, texts))
+    (λ c. search of)
     (λ c. cc)
-    (λ c. search (of, texts))
+    (λ c. search of)
     (λ c. cc)
-    (λ c. search (of, texts))
+    (λ c. search of)
     (λ c. cc)
-    (λ c. search (of, texts))
+    (λ c. search of)
     (λ c. cc)
-    (λ c. search (of, texts))
+    (λ c. search (of, _⨾_))
     (λ c. cc)
-    (λ c. search (of, texts))
+    (λ c. search (of, _⨾_))
     (λ c. cc)
-    (λ c. search (of, texts))
+    (λ c. search of)
     (λ c. cc)
-    (λ c. search (of, texts)))
+    (λ c. search of)
+    (λ c. cc)
+    (λ c. search (of, _⨾_)))

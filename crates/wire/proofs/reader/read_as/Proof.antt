@@ -22,7 +22,11 @@ read-entry-requires c κs = let s = c .before .before in body-fits (s .before .b
 read-state-requires : tie.Need-read-state-requires
 read-state-requires c κs = let s = c .before .before in body-fits (s .before .body-length .ensures) (c .enum-told5 .given .1) (s .if1 .left)
 
+read-wide-key-requires : tie.Need-read-key-requires-2
+read-wide-key-requires c κs = let s = c .before .before in body-fits (s .before .body-length .ensures) (c .enum-told6 .given .1) (s .if1 .left)
+
 returns-2 : tie.Need-returns-2
+unfolding readBody
 returns-2 c =
     let s = c .before .before .before in
     c .read-key .ensures ∙ read-whole _ (s .before .body-length .ensures) (c .before .enum-told .given .1) (s .if1 .left)
@@ -49,9 +53,15 @@ returns-6 c =
     let s = c .before .before .before in
     c .read-state .ensures ∙ read-whole _ (s .before .body-length .ensures) (c .before .enum-told5 .given .1) (s .if1 .left)
 
+returns-7 : tie.Need-returns-7
+unfolding readBody
+returns-7 c =
+    let s = c .before .before .before in
+    c .read-key2 .ensures ∙ read-whole _ (s .before .body-length .ensures) (c .before .enum-told6 .given .1) (s .if1 .left)
+
 pub read-as-spec : {M : Type 1} → statement M
 read-as-spec =
     tie.close
     (tie.spec (λ c κs. tt) (λ c κs. tt) returns (λ c. search needs) read-key-requires (λ c. search needs)
     read-variant-requires (λ c. search needs) read-entry-requires (λ c. search needs) (λ c κs. tt) (λ c κs. tt)
-    (λ c. search needs) read-state-requires returns-2 returns-3 returns-4 returns-5 returns-6)
+    (λ c. search needs) read-state-requires (λ c. search needs) read-wide-key-requires returns-2 returns-3 returns-4 returns-5 returns-6 returns-7)

@@ -21,12 +21,15 @@ returns-5 : tie.Need-returns-5
 returns-5 c = c .read-as5 .ensures ∙ known kind.State _ (c .before .match .keys5)
 
 returns-6 : tie.Need-returns-6
-returns-6 c =
+returns-6 c = c .read-as6 .ensures ∙ known kind.WideKey _ (c .before .match .keys6)
+
+returns-7 : tie.Need-returns-7
+returns-7 c =
     let other = c .before .match .rest in
-    c .refuse .ensures ∙ unknown _ (other .0 .0 .0 .0 .1) (other .0 .0 .0 .1) (other .0 .0 .1) (other .0 .1) (other .1)
+    c .refuse .ensures ∙ unknown _ (other .0 .0 .0 .0 .0 .1) (other .0 .0 .0 .0 .1) (other .0 .0 .0 .1) (other .0 .0 .1) (other .0 .1) (other .1)
 
 pub read-kind-spec : {M : Type 1} → statement M
 read-kind-spec =
     tie.close
-    (tie.spec (λ c κs. tt) (λ c κs. tt) (λ c κs. tt) (λ c κs. tt) (λ c κs. tt) (λ c κs. tt) returns returns-2 returns-3
-    returns-4 returns-5 returns-6)
+    (tie.spec (λ c κs. tt) (λ c κs. tt) (λ c κs. tt) (λ c κs. tt) (λ c κs. tt) (λ c κs. tt) (λ c κs. tt) returns returns-2 returns-3
+    returns-4 returns-5 returns-6 returns-7)

@@ -24,9 +24,14 @@ returns-5 : tie.Need-returns-5
 unfolding bodyBytes
 returns-5 c = let p = c .before .before in rw (p .before .before .enum-told5 .given .1) (p .put-state .ensures)
 
+returns-6 : tie.Need-returns-6
+unfolding bodyBytes
+returns-6 c = let p = c .before .before in rw (p .before .before .enum-told6 .given .1) (p .put-key2 .ensures)
+
 pub put-record-spec : {M : Type 1} → statement M
 put-record-spec =
     tie.close
     (tie.spec (λ c. search needs) (λ c κs. tt) (λ c. search needs) (λ c κs. tt) (λ c. search needs) (λ c κs. tt)
-    (λ c. search needs) (λ c κs. tt) (λ c. search needs) (λ c κs. tt) (λ c. search needs) returns (λ c. search needs)
-    returns-2 (λ c. search needs) returns-3 (λ c. search needs) returns-4 (λ c. search needs) returns-5)
+    (λ c. search needs) (λ c κs. tt) (λ c. search needs) (λ c κs. tt) (λ c. search needs) (λ c κs. tt) (λ c. search needs)
+    returns (λ c. search needs) returns-2 (λ c. search needs) returns-3 (λ c. search needs) returns-4 (λ c. search needs)
+    returns-5 (λ c. search needs) returns-6)

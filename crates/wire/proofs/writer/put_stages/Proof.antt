@@ -14,11 +14,11 @@ use Rattle.wire.proofs.writer.put_stages.Statement.{statement}
 use Rattle.wire.proofs.writer.put_stages.Tie as tie
 
 abbrev Inv-loop : tie.InvT-loop
-Inv-loop out₀ at key p₀ i₀ out p i =
-    (i ≤ 8) × (length (key .stages) ≡ 8) × Wrote out₀ at out p (raw (stagesBytes (take i (key .stages))))
+Inv-loop out₀ at wide key p₀ i₀ out p i =
+    (i ≤ 8) × (length (key .stages) ≡ 8) × Wrote out₀ at out p (raw (stagesBytes wide (take i (key .stages))))
 
 abbrev μ-loop : tie.MeasureT-loop
-μ-loop out₀ at key p₀ i₀ out p i = 8 - i
+μ-loop out₀ at wide key p₀ i₀ out p i = 8 - i
 
 loop-holds : tie.Need-loop-holds Inv-loop μ-loop
 unfolding stagesBytes
@@ -27,10 +27,11 @@ loop-holds c =
 
 loop-again : tie.Need-loop-again Inv-loop μ-loop
 loop-again c =
-    let b = c .before .before .before .before .before .before in (
+    let b = c .before .before .before .before .before .before in
+    let s = b .before .before in (
       omega arith,
       b .loop .inv .1,
-      same (stage-bytes-more (b .before .before .args .t3 .stages) (b .loop .i) _ (omega arith)) (b .loop .inv .2 ⨾ c .before .before .put-stage .ensures),
+      same (stage-bytes-more (s .args .wide) (s .args .t3 .stages) (b .loop .i) _ (omega arith)) (b .loop .inv .2 ⨾ c .before .before .put-stage .ensures),
     )
 
 same-length : tie.Need-same-length Inv-loop μ-loop
@@ -39,7 +40,8 @@ same-length c = keeps (c .before .loop .inv .2)
 returns : tie.Need-returns Inv-loop μ-loop
 returns c =
     let b = c .before in
-    same (ap stagesBytes (take-all (b .loop .i) (b .before .before .args .t3 .stages) (omega arith))) (b .loop .inv .2)
+    let s = b .before .before in
+    same (ap (stagesBytes (s .args .wide)) (take-all (b .loop .i) (s .args .t3 .stages) (omega arith))) (b .loop .inv .2)
 
 pub put-stages-spec : {M : Type 1} → statement M
 put-stages-spec =

@@ -14,8 +14,8 @@ emit-values-requires c κs =
     let e = c .before .before in
     let v = e .before .before in
     let k = v .before .before in
-    let s1 = k .before .before in
-    held-admitted _ (k .key-from-body .ensures) (v .variant-from-body .ensures) (e .entry-from-body .ensures)
+    let s1 = k .before in
+    held-admitted _ (k .held-key .ensures) (v .variant-from-body .ensures) (e .entry-from-body .ensures)
     (sym (s1 .before .holds-all .ensures) ∙ not-false _ (s1 .if1 .left))
 
 returns-2 : tie.Need-returns-2
@@ -24,8 +24,8 @@ returns-2 c =
     let e = m .before .before .before in
     let v = e .before .before in
     let k = v .before .before in
-    let s1 = k .before .before in
-    held-emitted _ _ _ (s1 .before .holds-all .ensures) (not-false _ (s1 .if1 .left)) (k .key-from-body .ensures) (v .variant-from-body .ensures)
+    let s1 = k .before in
+    held-emitted _ _ _ (s1 .before .holds-all .ensures) (not-false _ (s1 .if1 .left)) (k .held-key .ensures) (v .variant-from-body .ensures)
     (e .entry-from-body .ensures) (m .emit-values .ensures)
 
 pub emit-held-spec : {M : Type 1} → statement M
@@ -35,9 +35,6 @@ emit-held-spec =
     (λ c κs. search needs)
     (λ c κs. tt)
     returns
-    (λ c. search needs)
-    (λ c. search needs)
-    (λ c. search needs)
     (λ c κs. search needs)
     (λ c. search needs)
     (λ c. search needs)

@@ -9,16 +9,12 @@ unfolding heldOf
 returns c =
     let variant = c .before .before .before in
     let key = variant .before .before .before in
-    rw (key .part-held .ensures, variant .part-held2 .ensures, c .part-held3 .ensures)
+    rw (key .holds-key .ensures, variant .part-held .ensures, c .part-held2 .ensures)
 
 pub holds-all-spec : {M : Type 1} → statement M
 holds-all-spec =
     tie.close
     (tie.spec
-    (λ c. search needs)
-    (λ c. search needs)
-    (λ c. search needs)
-    (λ c. search needs)
     (λ c κs. search needs)
     (λ c. search needs)
     (λ c. search needs)

@@ -19,10 +19,21 @@ returns-5 : tie.Need-returns-5
 returns-5 c = rw (c .before .match .keys5) (c .kind-number5 .ensures)
 
 returns-6 : tie.Need-returns-6
-returns-6 c =
+returns-6 c = rw (c .before .match .keys6) (c .kind-number6 .ensures)
+
+returns-7 : tie.Need-returns-7
+returns-7 c =
     let other = c .before .match .rest in
-    let low = other .0 .0 in
-    rw (ne-eqb _ _ (low .0 .0 .1), ne-eqb _ _ (low .0 .1), ne-eqb _ _ (low .1), ne-eqb _ _ (other .0 .1), ne-eqb _ _ (other .1)) (c .refuse .ensures)
+    let low = other .0 .0 .0 in
+    rw (
+      ne-eqb _ _ (low .0 .0 .1),
+      ne-eqb _ _ (low .0 .1),
+      ne-eqb _ _ (low .1),
+      ne-eqb _ _ (other .0 .0 .1),
+      ne-eqb _ _ (other .0 .1),
+      ne-eqb _ _ (other .1),
+    )
+    (c .refuse .ensures)
 
 pub byte-number-spec : {M : Type 1} → statement M
 byte-number-spec =
@@ -34,9 +45,11 @@ byte-number-spec =
     (λ c κs. tt)
     (λ c κs. tt)
     (λ c κs. tt)
+    (λ c κs. tt)
     returns
     returns-2
     returns-3
     returns-4
     returns-5
-    returns-6)
+    returns-6
+    returns-7)

@@ -15,7 +15,7 @@ returns c =
 returns-2 : tie.Need-returns-2
 returns-2 c =
     let s1 = c .before .before .before in
-    not-short _ (s1 .before .body-length .ensures) (c .before .enum-told .given .1) (s1 .if1 .left) (c .key-number .ensures)
+    not-short _ (s1 .before .body-length .ensures) (c .before .enum-told .given .1) (s1 .if1 .left) (c .narrow-key-number .ensures)
 
 returns-3 : tie.Need-returns-3
 returns-3 c =
@@ -38,6 +38,11 @@ returns-6 c =
     let s1 = c .before .before .before in
     not-short _ (s1 .before .body-length .ensures) (c .before .enum-told5 .given .1) (s1 .if1 .left) (c .state-number .ensures)
 
+returns-7 : tie.Need-returns-7
+returns-7 c =
+    let s1 = c .before .before .before in
+    not-short _ (s1 .before .body-length .ensures) (c .before .enum-told6 .given .1) (s1 .if1 .left) (c .wide-key-number .ensures)
+
 pub kind-number-spec : {M : Type 1} → statement M
 kind-number-spec =
     tie.close
@@ -54,8 +59,11 @@ kind-number-spec =
     (λ c. search needs)
     (λ c. search needs)
     (λ c κs. body-fits (c .before .before .before .body-length .ensures) (c .enum-told5 .given .1) (c .before .before .if1 .left))
+    (λ c. search needs)
+    (λ c κs. body-fits (c .before .before .before .body-length .ensures) (c .enum-told6 .given .1) (c .before .before .if1 .left))
     returns-2
     returns-3
     returns-4
     returns-5
-    returns-6)
+    returns-6
+    returns-7)

@@ -20,8 +20,13 @@ returns-4 : tie.Need-returns-4
 returns-4 c = kind-named _ (c .before .before .pre) (c .match .keys4)
 
 returns-5 : tie.Need-returns-5
-returns-5 c =
-    let rest = c .match .rest in kind-other _ (c .before .before .pre) (rest .0 .0 .0 .1) (rest .0 .0 .1) (rest .0 .1) (rest .1)
+returns-5 c = kind-named _ (c .before .before .pre) (c .match .keys5)
+
+returns-6 : tie.Need-returns-6
+returns-6 c =
+    let rest = c .match .rest in
+    let low = rest .0 .0 in
+    kind-other _ (c .before .before .pre) (low .0 .0 .1) (low .0 .1) (low .1) (rest .0 .1) (rest .1)
 
 pub kind-in-spec : {M : Type 1} → statement M
-kind-in-spec = tie.close (tie.spec shared-slice-read-match returns returns-2 returns-3 returns-4 returns-5)
+kind-in-spec = tie.close (tie.spec shared-slice-read-match returns returns-2 returns-3 returns-4 returns-5 returns-6)

@@ -2,43 +2,43 @@
 
 use std::hint::black_box;
 
-use beside::Bodies;
+use beside::{Bodies, Emit};
 use ffcore::dxso::{
     emit::VariantKey,
     ff::{FfPsKey, emit_ps_ff_named},
 };
 use oraclelib::{
     emission::{rust_key, rust_variant},
+    emit,
     generate::{self, Rng},
-    records::{Combiner, Key, STAGES, Stage, TEXTURED, Triple},
+    records::{Combiner, KEY, Key, STAGES, Stage, TEXTURED, TRIPLE, Triple, WIDE_KEY},
+    rules::{self, THREE_OPERANDS},
 };
-use yuzuknoll::{
-    TEXT_LENGTH,
-    raw::{Emitted, HELD_LENGTH},
-};
+use yuzuknoll::{TEXT_LENGTH, raw::Emitted};
 
 use crate::measure::{Clock, Row, Sides, measure};
 
 /// One emission's arguments, in each one's types, and its text.
-pub struct Call {
+pub struct Call<const K: usize = KEY> {
     key: FfPsKey,
     variant: VariantKey,
     entry: String,
-    bodies: Bodies,
+    bodies: Bodies<K>,
     text: Vec<u8>,
+    /// Whether the Rust has this text.
+    by_the_rust: bool,
 }
 
-impl Call {
+impl<const K: usize> Call<K> {
     pub fn of(triple: &Triple) -> Self {
-        let mut call = Self {
+        Self {
             key: rust_key(&triple.key),
             variant: rust_variant(&triple.variant),
             entry: triple.entry.name().to_owned(),
             bodies: Bodies::of(triple),
-            text: Vec::new(),
-        };
-        call.text = call.rust().0.into_bytes();
-        call
+            text: emit(triple).text.into_bytes(),
+            by_the_rust: !rules::has_three_operands(&triple.key),
+        }
     }
 
     /// The published Rust: text, mask and rows.
@@ -56,16 +56,26 @@ impl Call {
     }
 }
 
-pub fn row(group: &'static str, name: &str, passes: usize, calls: &[&Call]) -> Row {
+pub fn row<const K: usize>(
+    group: &'static str,
+    name: &str,
+    passes: usize,
+    calls: &[&Call<K>],
+) -> Row
+where
+    Bodies<K>: Emit,
+{
     let mut buffer = vec![0; TEXT_LENGTH];
     let mut result = Emitted::default();
     let mut copied = vec![0; TEXT_LENGTH];
+    let rust = || {
+        for call in calls {
+            black_box(call.rust());
+        }
+    };
+    let by_the_rust = calls.iter().all(|call| call.by_the_rust);
     let sides = Sides {
-        rust: Some(Box::new(|| {
-            for call in calls {
-                black_box(call.rust());
-            }
-        })),
+        rust: by_the_rust.then(|| Box::new(rust) as Box<dyn FnMut()>),
         ours: Box::new(|| {
             for call in calls {
                 let bodies = black_box(&call.bodies);
@@ -113,6 +123,39 @@ pub fn emissions(rng: &mut Rng, count: usize, passes: usize) -> Vec<Row> {
     rows
 }
 
+/// Keys of kind 6: the corpus of the comparison, everyday keys widened, and these with ops of three operands in the place of others.
+pub fn wide_emissions(rng: &mut Rng, count: usize, passes: usize) -> Vec<Row> {
+    let mut corpus: Vec<Triple> = (0..count).map(|_| generate::wide_triple(rng)).collect();
+    corpus.extend(generate::wide_systematic());
+    let everyday: Vec<Triple> = (0..count)
+        .map(|_| {
+            let mut triple = generate::everyday(rng);
+            triple.key = triple.key.widened();
+            triple
+        })
+        .collect();
+    let with_three = |triple: &Triple| {
+        let mut triple = *triple;
+        for (n, stage) in triple.key.stages.iter_mut().enumerate() {
+            if stage.color.op != 1 {
+                stage.color.op = THREE_OPERANDS[n % 2];
+            }
+        }
+        triple
+    };
+    let three: Vec<Triple> = everyday.iter().map(with_three).collect();
+    [
+        ("of the comparison", corpus),
+        ("everyday keys, widened", everyday),
+        ("everyday keys, colour with three operands", three),
+    ]
+    .map(|(name, triples)| {
+        let calls: Vec<Call<WIDE_KEY>> = triples.iter().map(Call::of).collect();
+        row("wide", name, passes, &calls.iter().collect::<Vec<_>>())
+    })
+    .into()
+}
+
 /// What an emission does before it writes: the values checked (an entry that is refused ends there), and the text measured (no buffer).
 fn parts(calls: &[Call], passes: usize) -> [Row; 2] {
     let refused: Vec<Bodies> = calls.iter().map(|call| without_name(call.bodies)).collect();
@@ -150,11 +193,7 @@ fn parts(calls: &[Call], passes: usize) -> [Row; 2] {
     };
     let text: usize = calls.iter().map(|call| call.text.len()).sum();
     [
-        (
-            "read and checked, the entry refused",
-            HELD_LENGTH as f64,
-            read,
-        ),
+        ("read and checked, the entry refused", TRIPLE as f64, read),
         (
             "read, checked and measured, no buffer",
             text as f64 / calls.len() as f64,

@@ -37,6 +37,7 @@ fn main() {
     rows.extend(emissions::by_stages(&mut rng, passes));
     rows.extend(streams::records(&mut rng, count, passes));
     rows.extend(streams::inputs(&mut rng, passes, programs));
+    rows.extend(emissions::wide_emissions(&mut rng, count, passes));
     write(folder, "performance.csv", &report::csv(&rows));
     write(folder, "performance.svg", &plot::svg(&rows));
     println!("seed {seed}, {passes} passes, medians of them");

@@ -28,8 +28,9 @@ pub fn csv(rows: &[Row]) -> String {
 }
 
 /// The groups with their titles, in the order of the tables.
-const GROUPS: [(&str, &str, &str); 7] = [
+const GROUPS: [(&str, &str, &str); 8] = [
     ("emission", "emission", "bytes a text"),
+    ("wide", "emission of keys of kind 6", "bytes a text"),
     ("parts", "parts of it, everyday keys", "bytes"),
     ("read", "reading a record", "bytes"),
     ("write", "writing a record", "bytes"),

@@ -36,6 +36,7 @@ impl Corpus {
     fn records(&self, kind: Kind) -> Vec<Vec<u8>> {
         let body = |triple: &Triple| match kind {
             Kind::Key => triple.key.body(),
+            Kind::WideKey => triple.key.widened().body(),
             Kind::Variant => triple.variant.body(),
             Kind::Entry => triple.entry.body(),
             Kind::Emit | Kind::State => Vec::new(),
@@ -52,11 +53,12 @@ impl Corpus {
     }
 }
 
-const KINDS: [(&str, Kind); 4] = [
+const KINDS: [(&str, Kind); 5] = [
     ("key", Kind::Key),
     ("variant", Kind::Variant),
     ("entry", Kind::Entry),
     ("state write", Kind::State),
+    ("key of kind 6", Kind::WideKey),
 ];
 
 pub fn records(rng: &mut Rng, count: usize, passes: usize) -> Vec<Row> {
@@ -187,6 +189,19 @@ fn rust_emit(held: &Held) -> (String, u16, u8) {
     (text, key.sampled_stage_mask(), key.constant_rows())
 }
 
+/// A triple as yuzuknoll_apply holds it.
+fn held_bytes(triple: &Triple) -> [u8; HELD_LENGTH] {
+    let mut held = [0; HELD_LENGTH];
+    let mut records = triple.records();
+    while !records.is_empty() {
+        let mut applied = Applied::default();
+        let number = raw::apply(&mut held, &records, &mut [], &mut applied);
+        assert_eq!(number, 0, "a good record");
+        records.drain(..applied.taken as usize);
+    }
+    held
+}
+
 fn emit_row(corpus: &Corpus, passes: usize) -> Row {
     let theirs: Vec<Held> = corpus
         .triples
@@ -197,13 +212,11 @@ fn emit_row(corpus: &Corpus, passes: usize) -> Row {
             entry: Some(t.entry),
         })
         .collect();
-    let held = corpus.triples.iter().map(Triple::records);
-    let held = held.map(|records| records.try_into().expect("three records"));
     let texts: Vec<Vec<u8>> = theirs
         .iter()
         .map(|held| rust_emit(held).0.into_bytes())
         .collect();
-    let mut ours: Vec<[u8; HELD_LENGTH]> = held.collect();
+    let mut ours: Vec<[u8; HELD_LENGTH]> = corpus.triples.iter().map(held_bytes).collect();
     let mut report = Applied::default();
     let mut buffer = vec![0; TEXT_LENGTH];
     let sides = Sides {

@@ -21,7 +21,7 @@ use oraclelib::{
     Outcome,
     generate::{self, Rng, Stream},
     program::{Held, Record},
-    records::{Kind, Refusal},
+    records::{Kind, Refusal, STAGES},
 };
 use wrong::Wrong;
 use yuzuknoll::{
@@ -134,7 +134,7 @@ fn stream(rng: &mut Rng) -> Stream {
 fn noise(rng: &mut Rng) -> Vec<u8> {
     let mut bytes: Vec<u8> = (0..rng.below(130)).map(|_| rng.byte()).collect();
     if let Some(first) = bytes.first_mut() {
-        *first = rng.below(7) as u8;
+        *first = rng.below(8) as u8;
     }
     bytes
 }
@@ -142,26 +142,35 @@ fn noise(rng: &mut Rng) -> Vec<u8> {
 /// The kinds of the parts of what is held, in their order.
 const PARTS: [Kind; 3] = [Kind::Key, Kind::Variant, Kind::Entry];
 
-/// What is held, as yuzuknoll_apply is lent it.
+/// What is held, as yuzuknoll_apply is lent it; zeros where nothing is.
 fn held_bytes(held: &Held) -> [u8; HELD_LENGTH] {
-    let parts = PARTS.map(|kind| part(held, kind));
-    parts.concat().try_into().expect("three records")
+    let mut bytes = [0; HELD_LENGTH];
+    for kind in PARTS {
+        lay(&mut bytes, held, kind);
+    }
+    bytes
 }
 
-/// The bytes of what is held that a record of a kind sets; zeros where nothing is held. A state write sets the key's.
+/// Puts what is held where a record of a kind sets it. A key of kind 1 is shorter than its part, and the bytes behind it stay.
+fn lay(bytes: &mut [u8; HELD_LENGTH], held: &Held, kind: Kind) {
+    let part = part(held, kind);
+    bytes[place(kind)..][..part.len()].copy_from_slice(&part);
+}
+
+/// The bytes of what is held that a record of a kind sets. A state write sets the key's.
 fn part(held: &Held, kind: Kind) -> Vec<u8> {
     let record = match kind {
-        Kind::Key | Kind::State => held.key.map(Record::Key),
+        Kind::Key | Kind::WideKey | Kind::State => held.key.map(Record::Key),
         Kind::Variant => held.variant.map(Record::Variant),
         Kind::Entry => held.entry.map(Record::Entry),
         Kind::Emit => None,
     };
-    record.map_or_else(|| vec![0; length(kind)], |record| record.bytes())
+    record.map_or_else(Vec::new, |record| record.bytes())
 }
 
-/// What some lent bytes hold: a part that is no good record of its kind is not there.
+/// What some lent bytes hold: a part that does not begin with a good record of its kind is not there.
 fn held_of(bytes: &[u8; HELD_LENGTH]) -> Held {
-    let (key, rest) = bytes.split_at(length(Kind::Key));
+    let (key, rest) = bytes.split_at(length(Kind::WideKey));
     let (variant, entry) = rest.split_at(length(Kind::Variant));
     let mut held = Held::default();
     if let Ok(Record::Key(key)) = Record::read(key) {
@@ -176,12 +185,12 @@ fn held_of(bytes: &[u8; HELD_LENGTH]) -> Held {
     held
 }
 
-/// Where the part begins in what is held that a record of a kind sets.
+/// Where the part begins in what is held that a record of a kind sets. The key's part has room for either kind.
 const fn place(kind: Kind) -> usize {
     match kind {
-        Kind::Key | Kind::State => 0,
-        Kind::Variant => length(Kind::Key),
-        Kind::Entry => length(Kind::Key) + length(Kind::Variant),
+        Kind::Key | Kind::WideKey | Kind::State => 0,
+        Kind::Variant => length(Kind::WideKey),
+        Kind::Entry => length(Kind::WideKey) + length(Kind::Variant),
         Kind::Emit => HELD_LENGTH,
     }
 }
@@ -292,6 +301,7 @@ impl<'a> Run<'a> {
     /// Goes through a stream to its end or the first refusal, which is given with its offset.
     fn walk(&mut self, stream: &Stream) -> Option<(Refusal, usize)> {
         let mut theirs = Held::default();
+        let mut expected = [0; HELD_LENGTH];
         let mut ours = [0; HELD_LENGTH];
         let mut at = 0;
         while at < stream.input.len() {
@@ -308,10 +318,11 @@ impl<'a> Run<'a> {
                 return None;
             }
             at += taken;
-            if let Step::Holds(_, after) = step {
+            if let Step::Holds(kind, after) = step {
                 theirs = after;
+                lay(&mut expected, &theirs, kind);
             }
-            self.check(ours == held_bytes(&theirs), || {
+            self.check(ours == expected, || {
                 format!("held after {rest:02x?}: {ours:02x?}")
             });
         }
@@ -343,7 +354,7 @@ impl<'a> Run<'a> {
             0 | 1 => record.len(),
             2 | 3 => record.len() + 1 + self.rng.below(40),
             4 => record.len().saturating_sub(1),
-            _ => self.rng.below(70),
+            _ => self.rng.below(90),
         };
         let start = self.rng.byte();
         self.out.fill(room, start);
@@ -399,8 +410,9 @@ impl<'a> Run<'a> {
         for _ in 0..=rng.below(2) {
             let any = rng.below(HELD_LENGTH);
             let kind = place(rng.pick(&PARTS));
-            let first_flags = place(Kind::Key) + 7;
-            let specular = place(Kind::Variant) - 2;
+            let key = rng.pick(&[Kind::Key, Kind::WideKey]);
+            let specular = length(key) - 2;
+            let first_flags = specular / STAGES;
             let at = rng.pick(&[kind, kind, kind + 1, kind + 2, first_flags, specular, any]);
             held[at] = rng.byte();
         }

@@ -4,7 +4,7 @@ use beside::length;
 use oraclelib::{
     program::Record,
     records::{Kind, TEXTURED},
-    states::{self, RESULT_ARG, StateWrite},
+    states::{self, ALPHA_ARG0, COLOR_ARG0, RESULT_ARG, StateWrite},
 };
 use yuzuknoll::raw::{self, Applied, Emitted, HELD_LENGTH};
 
@@ -57,10 +57,18 @@ pub enum Wrong {
     WriteKeepsABadKey,
     RefusedWriteHoldsTheDefaults,
     ApplyHoldsTheWritesRecord,
+    ReadCutsAWideKeyLate,
+    ReadNamesAWideKeyAKey,
+    Argument0LeavesTheKind,
+    WideningTakes0,
+    EveryWriteWidens,
+    Arguments0Exchanged,
+    AKeyClearsWhatIsBehindIt,
+    AWideKeyStaysUnderAKey,
 }
 
 impl Wrong {
-    pub const ALL: [Self; 44] = [
+    pub const ALL: [Self; 52] = [
         Self::ReadTakesOneMore,
         Self::ReadNamesAnotherKind,
         Self::ReadPutsKindAfterLength,
@@ -105,6 +113,14 @@ impl Wrong {
         Self::WriteKeepsABadKey,
         Self::RefusedWriteHoldsTheDefaults,
         Self::ApplyHoldsTheWritesRecord,
+        Self::ReadCutsAWideKeyLate,
+        Self::ReadNamesAWideKeyAKey,
+        Self::Argument0LeavesTheKind,
+        Self::WideningTakes0,
+        Self::EveryWriteWidens,
+        Self::Arguments0Exchanged,
+        Self::AKeyClearsWhatIsBehindIt,
+        Self::AWideKeyStaysUnderAKey,
     ];
 
     /// What a wrong function makes of what was held before an accepted write, and of what is held after it.
@@ -153,6 +169,25 @@ impl Wrong {
                 *held = *before;
                 return;
             }
+            Self::Argument0LeavesTheKind => match had_key {
+                Some(had) if write.widens() => *key = had,
+                _ => return,
+            },
+            Self::WideningTakes0 if write.widens() && !had_key.is_some_and(|k| k.is_wide()) => {
+                for stage in &mut key.stages {
+                    stage.color.arg0 = Some(0);
+                    stage.alpha.arg0 = Some(0);
+                }
+                *key = write.done(*key);
+            }
+            Self::EveryWriteWidens => *key = key.widened(),
+            Self::Arguments0Exchanged if write.widens() => {
+                let other = StateWrite {
+                    state: COLOR_ARG0 + ALPHA_ARG0 - write.state,
+                    ..*write
+                };
+                *key = other.done(had_key.unwrap_or_else(states::defaults));
+            }
             Self::ApplyHoldsTheWritesRecord => {
                 let record = Record::State(*write).bytes();
                 held[..record.len()].copy_from_slice(&record);
@@ -166,6 +201,7 @@ impl Wrong {
 }
 
 const KEY: u64 = Kind::Key as u64;
+const WIDE_KEY: u64 = Kind::WideKey as u64;
 const VARIANT: u64 = Kind::Variant as u64;
 const ENTRY: u64 = Kind::Entry as u64;
 const EMIT: u64 = Kind::Emit as u64;
@@ -214,6 +250,12 @@ impl Functions for Wrong {
                     return 11;
                 }
             }
+            Self::ReadCutsAWideKeyLate
+                if number == 1 && bytes.first() == Some(&6) && bytes.len() >= length(Kind::Key) =>
+            {
+                return passed(Kind::WideKey, report);
+            }
+            Self::ReadNamesAWideKeyAKey if report.kind == WIDE_KEY => report.kind = KEY,
             Self::ReadReportsAHighBit if accepted => report.kind |= 1 << 63,
             Self::ReadReportsOnRefusal if !accepted => report.taken = 0,
             _ => {}
@@ -284,6 +326,22 @@ impl Functions for Wrong {
         }
         let length = report.result.length as usize;
         match self {
+            Self::AKeyClearsWhatIsBehindIt if report.kind == KEY => {
+                held[self::length(Kind::Key)..place(Kind::Variant)].fill(0);
+            }
+            // The stages of kind 1, with the arguments 0 that were there
+            Self::AWideKeyStaysUnderAKey if report.kind == KEY => {
+                let after = held_of(held).key.expect("a key");
+                if let Some(had) = held_of(&before).key.filter(|had| had.is_wide()) {
+                    let mut key = after.widened();
+                    for (stage, had) in key.stages.iter_mut().zip(had.stages) {
+                        stage.color.arg0 = had.color.arg0;
+                        stage.alpha.arg0 = had.alpha.arg0;
+                    }
+                    let key = Record::Key(key).bytes();
+                    held[..key.len()].copy_from_slice(&key);
+                }
+            }
             Self::ApplyForgetsTheEntry if report.kind == ENTRY => *held = before,
             Self::ApplyForgetsTheOthers if report.kind == VARIANT => {
                 held[..place(Kind::Variant)].fill(0);

@@ -1,0 +1,26 @@
+-- A key with a cause is refused; else its value is emitted with the bodies of the others.
+use mathlib.Core.Bool.{true}
+use mathlib.Core.Path.{sym, _∙_}
+use borrow.Author.Needs.{needs}
+use Rattle.yuzuknoll.proofs.Emitting.{body-free, key-refused, bodies-emitted}
+use Rattle.yuzuknoll.proofs.emit.yuzuknoll_emit_wide.Statement.{statement}
+use Rattle.yuzuknoll.proofs.emit.yuzuknoll_emit_wide.Tie as tie
+
+returns : tie.Need-returns
+returns c = key-refused true _ _ _ _ _ (c .before .wide-key-number .ensures) (c .if1 .taken)
+
+emit-parts-requires : tie.Need-emit-parts-requires
+emit-parts-requires c κs =
+    let k = c .before .before in
+    let t = k .before .before in
+    rw (k .wide-key .ensures) (body-free true _ (sym (t .before .wide-key-number .ensures) ∙ t .if1 .left))
+
+returns-2 : tie.Need-returns-2
+returns-2 c =
+    let m = c .before .before in
+    let k = m .before .before .before in
+    let t = k .before .before in
+    bodies-emitted true _ _ _ _ _ (t .before .wide-key-number .ensures) (t .if1 .left) (k .wide-key .ensures) (m .emit-parts .ensures)
+
+pub yuzuknoll-emit-wide-spec : {M : Type 1} → statement M
+yuzuknoll-emit-wide-spec = tie.close (tie.spec (λ c κs. search needs) returns (λ c κs. search needs) emit-parts-requires (λ c. search needs) returns-2)
