@@ -15,8 +15,7 @@ use Rattle.text.specs.Text.{raw, flat}
 use Rattle.text.specs.Buffer.{Wrote}
 use Rattle.text.proofs.Laws.{whole}
 use Rattle.cascade.specs.Keys.{active}
-use Rattle.cascade.specs.Effective.{effectiveStages, effective}
-use Rattle.cascade.proofs.Narrowing.{effective-twice, effective-flags}
+use Rattle.cascade.specs.Effective.{effectiveStages}
 use Rattle.cascade.specs.Reading.{lookupsOf}
 use Rattle.cascade.specs.Survey.{surveyOf}
 use Rattle.values.specs.declared.Key.{Key}
@@ -114,16 +113,3 @@ module _ (k : Key) (v : Variant) (e : Entry) (out out′ : List ℕ) (l : length
 pub effective-whole : (k : Key) (v : Variant) (e : Entry) → effectiveStages k ≡ k .stages → flat (wholeText k v e) ≡ textOf k v e
 unfolding wholeText bodyText
 effective-whole k v e h = rw h
-
--- The stages that take effect are those of the key that takes effect, so it is answered and written alike.
-module _ (k : Key) (v : Variant) (e : Entry) where
-  pub effective-admitted : Admitted k v e → Admitted (effective k) v e
-  effective-admitted h =
-      record { stageFlags = effective-flags k ∙ h .stageFlags; variantFlags = h .variantFlags; entryName = h .entryName; entryWord = h .entryWord }
-
-  pub effective-text : textOf (effective k) v e ≡ textOf k v e
-  effective-text = rw (effective-twice k)
-
-  pub effective-answer : (room : ℕ) → answerOf (effective k) v e room ≡ answerOf k v e room
-  unfolding answerOf
-  effective-answer room = rw (effective-flags k, effective-twice k)

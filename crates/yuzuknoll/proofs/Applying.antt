@@ -29,7 +29,12 @@ use Rattle.yuzuknoll.specs.Applying.{placeOf, roomOf, heldLength, heldBy
 use Rattle.yuzuknoll.specs.Applying.{onEmit, partWith, heldWith, textWith, noResult, resultWith, appliedNumbers}
 use Rattle.yuzuknoll.proofs.Lent.{not-zero, left, first-refused, first-passed}
 use Rattle.yuzuknoll.proofs.Checking.{taken}
-use Rattle.yuzuknoll.proofs.Emitting.{Emits, admitted, body-free}
+use Rattle.emission.proofs.InPlace.{takes-place}
+use Rattle.cascade.specs.Effective.{effectiveStages}
+use Rattle.values.specs.Flags.{stageFlagsBad}
+use Rattle.yuzuknoll.specs.InEffect.{inEffect}
+use Rattle.yuzuknoll.proofs.InEffect.{in-effect}
+use Rattle.yuzuknoll.proofs.Emitting.{Emits, admitted, body-free, place-emits}
 
 -- eight numbers, one by one
 pub eight : (l : List ℕ) → length l ≡ 8
@@ -61,20 +66,25 @@ key-within false = omega arith
 pub key-fits : (wide : Bool) {n : ℕ} → roomOf kind.Key ≤ n → bodyLength (keyKind wide) ≤ n
 key-fits wide h = omega (arith, key-within wide)
 
+-- a held key is free of 3
+held-key-free : (held : List ℕ) → heldOf held .«has_key» ≡ true → stageFlagsBad (heldOf held .key .stages) ≡ false
+unfolding heldOf
+held-key-free held t =
+    body-free (heldWide held) (heldBody kind.Key held) (held-free (keyKind (heldWide held)) (heldByte kind.Key held) (heldBody kind.Key held) t)
+
 -- values read from bytes that hold all three
-module _ (held : List ℕ) {k : Key} {v : Variant} {e : Entry} (p : k ≡ heldOf held .key)
+module _ (held : List ℕ) {k : Key} {v : Variant} {e : Entry} (p : k ≡ inEffect (heldOf held .key))
     (q : v ≡ variantFromBody (heldBody kind.Variant held)) (r : e ≡ entryFromBody (heldBody kind.Entry held)) where
-  pub held-admitted : holdsAll (heldOf held) ≡ true → Admitted k v e
+  pub held-admitted : holdsAll (heldOf held) ≡ true → (effectiveStages k ≡ k .stages) × Admitted k v e
   unfolding heldOf
   held-admitted t =
       let s = both (heldOf held .«has_key») (heldOf held .«has_variant» && heldOf held .«has_entry») t in
       let u = both (heldOf held .«has_variant») (heldOf held .«has_entry») (s .1) in
-      rw (p, q, r)
-      (admitted _
-      (body-free (heldWide held) (heldBody kind.Key held) (held-free (keyKind (heldWide held)) (heldByte kind.Key held) (heldBody kind.Key held) (s .0)))
-      (heldBody kind.Variant held) (heldBody kind.Entry held)
+      let free = held-key-free held (s .0) in
+      rw (q, r)
+      (takes-place (in-effect (heldOf held .key) free) _ _ p (admitted (heldOf held .key) free (heldBody kind.Variant held) (heldBody kind.Entry held)
       (held-free kind.Variant (heldByte kind.Variant held) (heldBody kind.Variant held) (u .0))
-      (held-free kind.Entry (heldByte kind.Entry held) (heldBody kind.Entry held) (u .1)))
+      (held-free kind.Entry (heldByte kind.Entry held) (heldBody kind.Entry held) (u .1))))
 
 -- Emission from held bytes: its number, the text and the result that it leaves.
 module _ (held out res : List ℕ) where
@@ -91,11 +101,14 @@ module _ (held out res : List ℕ) where
         let h : n ≡ 0 → ⊥ = λ z. not-zero EmitTooEarly (sym q ∙ z) in
         (rw (sym e ∙ f) q, (left _ out h, (left _ res h, λ z. absurd (h z))))
 
-    pub held-emitted : {n : ℕ} {out′ res′ : List ℕ} {k : Key} {v : Variant} {x : Entry} → all ≡ true → k ≡ heldOf held .key →
+    pub held-emitted : {n : ℕ} {out′ res′ : List ℕ} {k : Key} {v : Variant} {x : Entry} → all ≡ true → k ≡ inEffect (heldOf held .key) →
         v ≡ variantFromBody (heldBody kind.Variant held) → x ≡ entryFromBody (heldBody kind.Entry held) → Emits k v x out res n out′ res′ →
         HeldEmits n out′ res′
     unfolding heldOf emitNumber textWith resultWith
-    held-emitted t p q r s = let y = rw (p, q, r) at s in (rw (sym e ∙ t) (y .0), y .1)
+    held-emitted t p q r s =
+        let free = held-key-free held (both (heldOf held .«has_key») (heldOf held .«has_variant» && heldOf held .«has_entry») (sym e ∙ t) .0) in
+        let y = place-emits (in-effect (heldOf held .key) free) _ _ out res (rw (p, q, r) at s) in
+        (rw (sym e ∙ t) (y .0), y .1)
 
 -- a record laid over its part
 pub laid : (k : Kind) (held b : List ℕ) {n at at′ : ℕ} {held′ : List ℕ} → n ≡ recordLength k → at ≡ placeOf k → placeOf k + recordLength k ≤ length held →

@@ -4,6 +4,7 @@ use crate::check::kind_number;
 use crate::check::record_number;
 use crate::emit::RESULT_LENGTH;
 use crate::emit::emit_values;
+use crate::keys::narrow_in_effect;
 use crate::read::kind_in;
 use crate::refuse;
 use states::defaults;
@@ -17,9 +18,10 @@ use wire::key_kind;
 use wire::kind_byte;
 use wire::make::key_record;
 use wire::reader::entry_from_body;
-use wire::reader::key_from_body;
+use wire::reader::narrow_key;
 use wire::reader::state_from_body;
 use wire::reader::variant_from_body;
+use wire::reader::wide_key;
 use wire::record_length;
 use wire::writer::write;
 ghost use Prim.Native.Nat.{_+_, _≤_};
@@ -29,6 +31,7 @@ ghost use lib.ListN.{drop, length, take};
 ghost use lib.Seq.{sets};
 ghost use Rattle.records.specs.Applying.{appliedNumber, emitNumber, holdsAll, keyOrDefaults};
 ghost use Rattle.wire.specs.Bodies.{bodyLength, recordLength};
+ghost use Rattle.yuzuknoll.specs.InEffect.{inEffect};
 ghost use Rattle.yuzuknoll.specs.Lent.{ReportedDemand3, after, recordNumbers};
 ghost use Rattle.yuzuknoll.specs.Records.{kindIn};
 ghost use Rattle.yuzuknoll.specs.Applying.{appliedNumbers, heldLength, heldOf, heldWith, isRecord, noResult, placeOf, resultWith, textWith};
@@ -96,10 +99,21 @@ fn held_key(held: &[u8]) -> Key
     requires { ⌜ length (now held) ≡ heldLength ⌝ }
     ensures { λ r. ⌜ r ≡ heldOf (now (held .entry)) .key ⌝ }
 {
-    key_from_body(
-        &held[KEY_BODY..VARIANT_PLACE],
-        held[KEY_PLACE] == KIND_WIDE_KEY,
-    )
+    if held[KEY_PLACE] == KIND_WIDE_KEY {
+        return wide_key(&held[KEY_BODY..VARIANT_PLACE]);
+    }
+    narrow_key(&held[KEY_BODY..VARIANT_PLACE])
+}
+
+// The key that is emitted in its place.
+fn held_in_effect(held: &[u8]) -> Key
+    requires { ⌜ length (now held) ≡ heldLength ⌝ }
+    ensures { λ r. ⌜ r ≡ inEffect (heldOf (now (held .entry)) .key) ⌝ }
+{
+    if held[KEY_PLACE] == KIND_WIDE_KEY {
+        return wide_key(&held[KEY_BODY..VARIANT_PLACE]);
+    }
+    narrow_in_effect(&held[KEY_BODY..VARIANT_PLACE])
 }
 
 fn holds_all(held: &[u8]) -> bool
@@ -131,7 +145,7 @@ fn emit_held(held: &[u8], text: &mut [u8], result: &mut [u64; RESULT_LENGTH]) ->
     if !holds_all(held) {
         return refuse(Refusal::EmitTooEarly);
     }
-    let key = held_key(held);
+    let key = held_in_effect(held);
     let variant = variant_from_body(&held[VARIANT_BODY..ENTRY_PLACE]);
     let entry = entry_from_body(&held[ENTRY_BODY..HELD_LENGTH]);
     emit_values(key, variant, entry, text, result)
