@@ -17,8 +17,7 @@ use Rattle.combiners.specs.Combiners.{opCodes, look, opOf, template, opText, ha
 use Rattle.combiners.specs.declared.Op.{Op}
 use Rattle.combiners.specs.declared.Op.the-variants.{Other}
 use Rattle.values.specs.Listed.{Name}
-use Rattle.shader.specs.Names.{tokens, Occurrence, declaration, usage, row}
-use Rattle.shader.specs.Demand.{sameName}
+use Rattle.shader.specs.Names.{sameName, tokens, Occurrence, declaration, usage, row}
 use Rattle.shader.proofs.Names.Truth.{and-fst, and-snd, inl, inr, either, cond-cases, below, below-at}
 use Rattle.shader.proofs.Names.Scan.{scan}
 use Rattle.shader.proofs.Names.Check.{Aim, Known, same→eq}
@@ -37,7 +36,7 @@ abbrev allCommon : Bool → List Occurrence → Bool
 allCommon factor [] = true
 allCommon factor (o ∷ l) = common factor o && allCommon factor l
 
-abbrev operands : Text → Text → Text → Text → List Slot
+abbrev pub operands : Text → Text → Text → Text → List Slot
 operands a b x z = ("a" ≔ a) ∷ ("b" ≔ b) ∷ ("t" ≔ x) ∷ ("z" ≔ z) ∷ []
 
 abbrev isOneOf : List Slot → List ℕ → Bool
@@ -68,7 +67,7 @@ look-far [] c t h = refl
 look-far (e ∷ r) c t h =
     rw (far c (e .0) h (leb→le (suc (e .0)) 27 (and-fst (leb (suc (e .0)) 27) _ t))) (look-far r c (and-snd (leb (suc (e .0)) 27) _ t) h)
 
-every-code : (q : ℕ → Op → Bool) → T (below 27 (λ c. q c (opOf c))) → ((c : ℕ) → 27 ≤ c → T (q c Other)) → (c : ℕ) → T (q c (opOf c))
+pub every-code : (q : ℕ → Op → Bool) → T (below 27 (λ c. q c (opOf c))) → ((c : ℕ) → 27 ≤ c → T (q c Other)) → (c : ℕ) → T (q c (opOf c))
 every-code q t d c = go (leb 27 c) (leb→le 27 c) (nleb→lt 27 c)
   where
     go : (b : Bool) → (T b → 27 ≤ c) → (T (not b) → c < 27) → T (q c (opOf c))
