@@ -22,7 +22,7 @@ ghost use Rattle.values.specs.Admitted.{Admitted};
 ghost use Rattle.values.specs.Flags.{stageFlagsBad};
 ghost use Rattle.shader.specs.Results.{emissionNumber, emittedOf, textOf};
 ghost use Rattle.wire.specs.Bodies.{entryFromBody, keyFromBody, variantFromBody};
-ghost use Rattle.yuzuknoll.specs.Lent.{ReportedDemand3, after, atFront, resultNumbers};
+ghost use Rattle.yuzuknoll.specs.Lent.{ReportedDemands, after, atFront, resultNumbers};
 ghost use Rattle.yuzuknoll.specs.Emitting.{bodiesNumber, bodiesResult, bodiesText};
 
 // How many bytes the bodies have.
@@ -64,7 +64,7 @@ pub(crate) fn emit_values(
     ensures number { λ r. ⌜ r ≡ emissionNumber key variant entry (length (now (text .entry))) ⌝ }
     ensures text { λ r. ⌜ now (text .exit) ≡ after r (atFront (textOf key variant entry) (now (text .entry))) (now (text .entry)) ⌝ }
     ensures result { λ r. ⌜ now (result .exit) ≡ after r (resultNumbers (emittedOf key variant entry)) (now (result .entry)) ⌝ }
-    ensures names { λ r. ⌜ (r ≡ 0 → ReportedDemand3 key (now (text .exit)) (now (result .exit))) ⌝ }
+    ensures names { λ r. ⌜ (r ≡ 0 → ReportedDemands key (now (text .exit)) (now (result .exit))) ⌝ }
 {
     match emit_checked(key, variant, entry, text) {
         Answer::Refused(cause) => refuse(cause),
@@ -87,7 +87,7 @@ fn emit_parts(
     ensures number { λ r. ⌜ r ≡ emissionNumber key (variantFromBody (now (variant .entry))) (entryFromBody (now (entry .entry))) (length (now (text .entry))) ⌝ }
     ensures text { λ r. ⌜ now (text .exit) ≡ after r (atFront (textOf key (variantFromBody (now (variant .entry))) (entryFromBody (now (entry .entry)))) (now (text .entry))) (now (text .entry)) ⌝ }
     ensures result { λ r. ⌜ now (result .exit) ≡ after r (resultNumbers (emittedOf key (variantFromBody (now (variant .entry))) (entryFromBody (now (entry .entry))))) (now (result .entry)) ⌝ }
-    ensures names { λ r. ⌜ (r ≡ 0 → ReportedDemand3 key (now (text .exit)) (now (result .exit))) ⌝ }
+    ensures names { λ r. ⌜ (r ≡ 0 → ReportedDemands key (now (text .exit)) (now (result .exit))) ⌝ }
 {
     let variant_refused = variant_number(variant);
     if variant_refused != ACCEPTED {
@@ -114,7 +114,7 @@ pub extern "C" fn yuzuknoll_emit(
     ensures number { λ r. ⌜ r ≡ bodiesNumber false (now (key .entry)) (now (variant .entry)) (now (entry .entry)) (length (now (text .entry))) ⌝ }
     ensures text { λ r. ⌜ now (text .exit) ≡ after r (atFront (bodiesText false (now (key .entry)) (now (variant .entry)) (now (entry .entry))) (now (text .entry))) (now (text .entry)) ⌝ }
     ensures result { λ r. ⌜ now (result .exit) ≡ after r (bodiesResult false (now (key .entry)) (now (variant .entry)) (now (entry .entry))) (now (result .entry)) ⌝ }
-    ensures names { λ r. ⌜ (r ≡ 0 → ReportedDemand3 (keyFromBody false (now (key .entry))) (now (text .exit)) (now (result .exit))) ⌝ }
+    ensures names { λ r. ⌜ (r ≡ 0 → ReportedDemands (keyFromBody false (now (key .entry))) (now (text .exit)) (now (result .exit))) ⌝ }
 {
     let refused = narrow_key_number(key);
     if refused != ACCEPTED {
@@ -135,7 +135,7 @@ pub extern "C" fn yuzuknoll_emit_wide(
     ensures number { λ r. ⌜ r ≡ bodiesNumber true (now (key .entry)) (now (variant .entry)) (now (entry .entry)) (length (now (text .entry))) ⌝ }
     ensures text { λ r. ⌜ now (text .exit) ≡ after r (atFront (bodiesText true (now (key .entry)) (now (variant .entry)) (now (entry .entry))) (now (text .entry))) (now (text .entry)) ⌝ }
     ensures result { λ r. ⌜ now (result .exit) ≡ after r (bodiesResult true (now (key .entry)) (now (variant .entry)) (now (entry .entry))) (now (result .entry)) ⌝ }
-    ensures names { λ r. ⌜ (r ≡ 0 → ReportedDemand3 (keyFromBody true (now (key .entry))) (now (text .exit)) (now (result .exit))) ⌝ }
+    ensures names { λ r. ⌜ (r ≡ 0 → ReportedDemands (keyFromBody true (now (key .entry))) (now (text .exit)) (now (result .exit))) ⌝ }
 {
     let refused = wide_key_number(key);
     if refused != ACCEPTED {

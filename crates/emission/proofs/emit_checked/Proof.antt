@@ -1,5 +1,5 @@
--- A key of kind 1 with an op of three operands is answered as the key that takes effect in its place; another takes effect as it is. Demand 3 and the
--- number follow from the answer and the buffer.
+-- A key of kind 1 with an op of three operands is answered as the key that takes effect in its place; another takes effect as it is. What is demanded
+-- of names, and the number, follow from the answer and the buffer.
 use mathlib.Core.Path.{_≡_, sym, _∙_}
 use native.Mathlib.Omega.{arith}
 use borrow.Author.Needs.{needs}
