@@ -4,7 +4,7 @@ use Prim.Native.String.{String}
 use mathlib.Core.Path.{_≡_, refl, sym, ap, _∙_, subst}
 use mathlib.Core.List.{List, [], _∷_, append-assoc}
 use mathlib.Core.Bool.{Bool, true, false, not, _&&_, _||_, cond}
-use lib.Dec.{T, eqb, eqb→eq, T-not}
+use lib.Dec.{T, eqb, eqb→eq}
 use Rattle.text.specs.Text.{Text, _⊕_, when, lit, bytes, flat}
 use Rattle.text.specs.Format.{Piece, words, slot, cut, Slot, find, pieceText, fill}
 use Rattle.text.proofs.Slots.{isSlot, mentions}
@@ -22,7 +22,7 @@ use Rattle.cascade.specs.declared.Alpha.{Alpha}
 use Rattle.cascade.specs.declared.Alpha.the-variants.{FromColour, Kept, Written}
 use Rattle.shader.specs.Whole.{stageLine}
 use Rattle.values.specs.Listed.{Name}
-use Rattle.shader.proofs.Names.Truth.{true-of, false-of, and-fst, and-snd, either}
+use Rattle.shader.proofs.Names.Truth.{true-of, false-of, and-fst, and-snd, either, other, implied}
 use Rattle.shader.proofs.Names.Words.{the, Word, word-of}
 use Rattle.shader.proofs.Names.Templates.{same-bytes}
 use Rattle.shader.proofs.Names.Arguments.{texel, texelWord}
@@ -69,8 +69,7 @@ module _ (i : ℕ) (tex : Bool) (c : ℕ) (a b z : Text) where
       → Finds n (opText i tex (opOf c) a b z)
   unfolding opText
   by-slot v t m x =
-      pieces-finds v pieces (either (not (mentions v pieces)) _ (λ u. absurd (T-not (mentions v pieces) u m)) (λ u. u) t)
-      (rw (fill-found v slots pieces m) x)
+      pieces-finds v pieces (implied (mentions v pieces) _ t m) (rw (fill-found v slots pieces m) x)
 
   all-reached : T (reachesAll slots pieces)
   all-reached = every-reached tex slots c
@@ -183,10 +182,6 @@ module _ {n : Name} (i : ℕ) (tex temped : Bool) (colour : Expression) where
   unfolding lineText
   alpha-mentions e f =
       line-mentions "    {result} = float4(({colour}).rgb, ({alpha}).a);\n" "alpha" (lineText i tex temped colour (Written e)) tt f
-
-other : (a b : Bool) → T (a || b) → T (not a) → T b
-other true b t n = absurd n
-other false b t n = t
 
 written-alpha : (s : Stage) → T (alphaWritten s) → T (not (fallsBack (textured s) (s .alpha)))
     → alphaOf s ≡ Written (combined (textured s) (s .alpha))

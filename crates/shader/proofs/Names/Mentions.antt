@@ -12,11 +12,11 @@ use Rattle.text.proofs.Slots.{isSlot}
 use Rattle.values.specs.Listed.{Name}
 use Rattle.shader.specs.Names.{Token, word, mark, tokens, foundAt}
 use Rattle.shader.specs.Idle.{used}
-use Rattle.shader.proofs.Names.Truth.{and-fst, and-snd, inl, inr, either, cond-cases}
+use Rattle.shader.proofs.Names.Truth.{and-fst, and-snd, inl, inr, either, implied, cond-cases}
 use Rattle.shader.proofs.Names.Scan.{scan, breaks, ended, after, kept, matters, tokens-append}
 use Rattle.shader.proofs.Names.Words.{plain, Word}
 use Rattle.shader.proofs.Names.Frag.{opens, opens-append}
-use Rattle.shader.proofs.Names.Templates.{joins, left, right, endsPiece, same-bytes}
+use Rattle.shader.proofs.Names.Templates.{joins, left, right, endsPiece, same-bytes, seam}
 use Rattle.shader.proofs.Names.Idle.{used-first, used-right}
 
 -- behind tokens of any kind
@@ -86,7 +86,7 @@ module _ (b : List Token) where
   abbrev Plain : ℕ → Type 0
   Plain c = T (plain (kept (mark (code " ") ∷ kept (mark c ∷ b))))
 
-  -- the star alone may be the end of what declares a pointer, and no more is it behind a space
+  -- a star may end what declares a pointer, but a star and a space do not
   star-plain : Plain (code "*")
   star-plain = cond-cases (matters (mark (code "*") ∷ b)) _ _ (λ y. T (plain (kept (mark (code " ") ∷ y)))) (λ t. tt) (λ t. tt)
 
@@ -170,17 +170,16 @@ module _ (n : Name) (v : String) (p q : Piece) (ps : List Piece) (s t : Text) wh
   found-more true f a ih b c r e = rw (append-assoc (flat s) (flat t) r) (a .on b (c tt) (flat t ++ r) (opens-append (flat t) r f))
   found-more false f a ih b c r e =
       let over = and-fst (passes v p (q ∷ ps) s t) _ f in
-      let seamed = and-fst (madeOf p s && (endsPiece p || opens (flat t))) _ over in
-      let made = and-fst (madeOf p s) _ seamed in
-      let seam : T (ended (flat s) || breaks (flat t ++ r)) =
-      either (endsPiece p) (opens (flat t)) (λ x. inl (ended (flat s)) _ (piece-ended p s made x))
-      (λ x. inr (ended (flat s)) _ (opens-append (flat t) r x)) (and-snd (madeOf p s) _ seamed) in
-      let calm : T (headed v (q ∷ ps)) → T (plain (after b (tokens (flat s)))) =
-      λ z. either (not (headed v (q ∷ ps))) (clearPiece p) (λ x. absurd (T-not (headed v (q ∷ ps)) x z)) (λ x. piece-plain p s made x b)
-      (and-snd (madeOf p s && (endsPiece p || opens (flat t))) _ over) in
+      let here = and-fst (madeOf p s && (endsPiece p || opens (flat t))) _ over in
+      let made = and-fst (madeOf p s) _ here in
+      let cut-here : T (ended (flat s) || breaks (flat t ++ r)) =
+      either (endsPiece p) _ (λ x. inl (ended (flat s)) _ (piece-ended p s made x)) (λ x. inr (ended (flat s)) _ x)
+      (seam p t r (and-snd (madeOf p s) _ here)) in
+      let calm : T (headed v (q ∷ ps)) → T (clearPiece p) =
+      implied (headed v (q ∷ ps)) (clearPiece p) (and-snd (madeOf p s && (endsPiece p || opens (flat t))) _ over) in
       rw (append-assoc (flat s) (flat t) r)
-      (skip n b (flat s) (flat t ++ r) seam
-      (ih (and-snd (passes v p (q ∷ ps) s t) _ f) a (after b (tokens (flat s))) calm r e))
+      (skip n b (flat s) (flat t ++ r) cut-here
+      (ih (and-snd (passes v p (q ∷ ps) s t) _ f) a (after b (tokens (flat s))) (λ z. piece-plain p s made (calm z) b) r e))
 
 found : (n : Name) (v : String) (ps : List Piece) (t : Text) → T (shaped v ps t) → Finds n (filling v ps t) → Found n v ps t
 found n v [] t f a b c r e = absurd f
@@ -197,10 +196,10 @@ pub format-finds : {n : Name} {t : Text} (s v : String) → T (shaped v (cut s) 
 format-finds s v f a = pieces-finds v (cut s) f a
 
 -- a line made by a template, with words before the slot and behind it
-abbrev lined : String → List Piece → Text → Bool
-lined v ps t = (opens (flat t) && not (headed v ps)) && (inner v ps && shaped v ps t)
+abbrev inLine : String → List Piece → Text → Bool
+inLine v ps t = (opens (flat t) && not (headed v ps)) && (inner v ps && shaped v ps t)
 
-pub line-mentions : {n : Name} (s v : String) (t : Text) → T (lined v (cut s) t) → Finds n (filling v (cut s) t) → Mentions n (flat t)
+pub line-mentions : {n : Name} (s v : String) (t : Text) → T (inLine v (cut s) t) → Finds n (filling v (cut s) t) → Mentions n (flat t)
 line-mentions {n} s v t f a =
     let front = and-fst (opens (flat t) && not (headed v (cut s))) _ f in
     let rest = and-snd (opens (flat t) && not (headed v (cut s))) _ f in

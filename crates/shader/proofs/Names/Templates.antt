@@ -96,6 +96,11 @@ same-bytes (x ∷ v) (y ∷ w) t =
     let q : v ≡ w = same-bytes v w (and-snd (eqb x y) _ t) in
     cc
 
+-- no word goes on from a piece to the text behind it, whatever follows
+pub seam : (p : Piece) (t : Text) (r : List ℕ) → T (endsPiece p || opens (flat t)) → T (endsPiece p || breaks (flat t ++ r))
+seam p t r =
+    either (endsPiece p) (opens (flat t)) (λ e. inl (endsPiece p) _ e) (λ o. inr (endsPiece p) _ (opens-append (flat t) r o))
+
 module _ (A : Aim) (K K′ : Known) (u : Has K K′) where
   words-read : (w r : List ℕ) (X : Type 0) → T (whole w) → T (ended w || breaks r) → Uses A K (scan [] (tokens w)) X
       → (X → Holds A K′ (scan [] (tokens r)))
@@ -123,11 +128,9 @@ module _ (A : Aim) (K K′ : Known) (u : Has K K′) where
   pieces-read (p ∷ (q ∷ ps)) (pick b s t) f n r c k = absurd f
   pieces-read (p ∷ (q ∷ ps)) (s ⊕ t) f n r c k =
       let here = and-fst (fitsPiece p s && (endsPiece p || opens (flat t))) (fits (q ∷ ps) t) f in
-      let seam : T (endsPiece p || breaks (flat t ++ r)) =
-      either (endsPiece p) (opens (flat t)) (λ e. inl (endsPiece p) _ e) (λ o. inr (endsPiece p) _ (opens-append (flat t) r o))
-      (and-snd (fitsPiece p s) _ here) in
       append A K′ [] (flat s) (flat t) r
-      (piece-read p s (flat t ++ r) (Needs A K (q ∷ ps) t) (and-fst (fitsPiece p s) _ here) seam n
+      (piece-read p s (flat t ++ r) (Needs A K (q ∷ ps) t) (and-fst (fitsPiece p s) _ here)
+      (seam p t r (and-snd (fitsPiece p s) _ here)) n
       (λ m. pieces-read (q ∷ ps) t (and-snd (fitsPiece p s && (endsPiece p || opens (flat t))) (fits (q ∷ ps) t) f) m r c k))
 
 pub pieces-frag : (A : Aim) (K : Known) (ps : List Piece) (t : Text) → T (fits ps t) → Needs A K ps t → Frag A K t

@@ -2,9 +2,9 @@
 use Prim.Native.Nat.{ℕ, _≤_}
 use mathlib.Core.Path.{_≡_, refl, subst}
 use mathlib.Core.List.{List, [], append-nil}
-use mathlib.Core.Bool.{Bool, not}
+use mathlib.Core.Bool.{Bool}
 use native.Mathlib.Omega.{arith}
-use lib.Dec.{T, lit≤, T-not}
+use lib.Dec.{T, lit≤}
 use lib.ListN.{length}
 use Rattle.text.specs.Text.{bytes, flat}
 use Rattle.cascade.specs.Keys.{rowsOf}
@@ -24,7 +24,7 @@ use Rattle.values.specs.Listed.{Name}
 use Rattle.shader.specs.Names.{tokens, Occurrence, occurrences}
 use Rattle.shader.specs.Idle.{watched, used, NoIdle}
 use Rattle.shader.specs.Demand.{Demand3, Demands}
-use Rattle.shader.proofs.Names.Truth.{inl, either}
+use Rattle.shader.proofs.Names.Truth.{inl, implied}
 use Rattle.shader.proofs.Names.Scan.{scan, scan-occurs}
 use Rattle.shader.proofs.Names.Check.{Aim, Known, Holds, declaring, nothing, checked-before, checked-once, checked-rows, checked-lookups, checked-may}
 use Rattle.shader.proofs.Names.Frag.{Has, has-more, Reads, literal, _⨾_}
@@ -150,8 +150,7 @@ module _ (k : Key) (v : Variant) (e : Entry) (l : length (k .stages) ≤ 8) (t :
   no-idle : NoIdle (textOf k v e)
   no-idle n before behind w is =
       used-behind n found (checked-before whole found holds n) (checked-once whole found holds n)
-      (either (not (watched n)) (used n found) (λ x. absurd (T-not (watched n) x w)) (λ x. x) (checked-may whole found holds n before behind is))
-      before behind is
+      (implied (watched n) (used n found) (checked-may whole found holds n before behind is) w) before behind is
 
   pub demand : Demands k (textOf k v e) (emittedOf k v e)
   demand = record { demand3 = demand3; noIdle = no-idle }
