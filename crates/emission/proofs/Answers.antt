@@ -26,7 +26,7 @@ use Rattle.values.specs.Entries.{entryGood}
 use Rattle.values.specs.Words.{entryReserved}
 use Rattle.values.specs.Admitted.{Admitted}
 use Rattle.shader.specs.Results.{textOf, inFront, bufferAfter, alphaWarning, emittedOf, answerOf, answerNumber, emissionNumber}
-use Rattle.shader.specs.Demand.{Demand3, Demanded}
+use Rattle.shader.specs.Demand.{Demands, Demanded}
 use Rattle.values.specs.declared.Variant.{Variant}
 use Rattle.values.specs.declared.Entry.{Entry}
 use Rattle.values.specs.declared.Emitted.{Emitted}
@@ -97,9 +97,9 @@ pub accepted : (k : Key) (v : Variant) (e : Entry) (u : Survey) (at lookups : �
 unfolding surveyOf
 accepted k v e u at lookups he hu ha hl = rw (hl, ha, hu, he)
 
--- Demand 3 holds of the answer and of the bytes that the buffer then holds.
+-- What is demanded of names holds of the answer and of the bytes that the buffer then holds.
 module _ (k : Key) (v : Variant) (e : Entry) (out out′ : List ℕ) (l : length (k .stages) ≤ 8) (h : Admitted k v e) where
-  in-the-buffer : (m : Emitted) → m ≡ emittedOf k v e → out′ ≡ inFront (textOf k v e) out → Demand3 k (take (m .length) out′) m
+  in-the-buffer : (m : Emitted) → m ≡ emittedOf k v e → out′ ≡ inFront (textOf k v e) out → Demands k (take (m .length) out′) m
   in-the-buffer m hm ho =
       rw (hm, ho, take-at (textOf k v e) (drop (length (textOf k v e)) out) _ refl) (demand k v e l (subst T (sym (h .entryName)) tt))
 

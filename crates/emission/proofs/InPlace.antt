@@ -11,7 +11,7 @@ use Rattle.values.specs.declared.Variant.{Variant}
 use Rattle.values.specs.declared.Entry.{Entry}
 use Rattle.values.specs.declared.Emitted.{Emitted}
 use Rattle.shader.specs.Results.{textOf, emittedOf, answerOf, emissionNumber}
-use Rattle.shader.specs.Demand.{Demand3, markedStages}
+use Rattle.shader.specs.Demand.{Demand3, Demands, markedStages}
 
 -- r is emitted in the place of k
 pub record InPlace (r k : Key) : Type 0 where
@@ -32,8 +32,8 @@ effective-in-place k =
     }
 
 module _ {r k : Key} (p : InPlace r k) where
-  pub place-demand : {text : List ℕ} {m : Emitted} → Demand3 r text m → Demand3 k text m
-  place-demand d =
+  place-demand3 : {text : List ℕ} {m : Emitted} → Demand3 r text m → Demand3 k text m
+  place-demand3 d =
       record {
         declaredBefore = d .declaredBefore;
         declaredOnce = d .declaredOnce;
@@ -42,6 +42,9 @@ module _ {r k : Key} (p : InPlace r k) where
         lookupsMarked = sym (p .sameMarks) ∙ d .lookupsMarked;
         lookupsMasked = d .lookupsMasked;
       }
+
+  pub place-demand : {text : List ℕ} {m : Emitted} → Demands r text m → Demands k text m
+  place-demand d = record { demand3 = place-demand3 (d .demand3); noIdle = d .noIdle }
 
   module _ (v : Variant) (e : Entry) where
     place-admitted : Admitted k v e → Admitted r v e

@@ -23,7 +23,7 @@ use Rattle.wire.specs.declared.Kind.{Kind}
 use Rattle.wire.specs.declared.Kind.the-variants as kind
 use Rattle.wire.proofs.Kind.{the-type}
 use Rattle.records.specs.Applying.{holdsAll, emitNumber, appliedNumber}
-use Rattle.yuzuknoll.specs.Lent.{after, recordNumbers, ReportedDemand3}
+use Rattle.yuzuknoll.specs.Lent.{after, recordNumbers, ReportedDemands}
 use Rattle.yuzuknoll.specs.Records.{kindIn}
 use Rattle.yuzuknoll.specs.Applying.{placeOf, roomOf, heldLength, heldByte, heldBody, isRecord, heldWide, heldOf}
 use Rattle.yuzuknoll.specs.Applying.{onEmit, partWith, heldWith, textWith, noResult, resultWith, appliedNumbers}
@@ -92,7 +92,7 @@ module _ (held out res : List ℕ) where
   HeldEmits n out′ res′ =
       (n ≡ emitNumber (heldOf held) (length out))
       × ((out′ ≡ after n (textWith kind.Emit (heldOf held) out) out)
-      × ((res′ ≡ after n (resultWith kind.Emit (heldOf held)) res) × (n ≡ 0 → ReportedDemand3 (heldOf held .key) out′ res′)))
+      × ((res′ ≡ after n (resultWith kind.Emit (heldOf held)) res) × (n ≡ 0 → ReportedDemands (heldOf held .key) out′ res′)))
 
   module _ {all : Bool} (e : all ≡ holdsAll (heldOf held)) where
     pub too-early : {n : ℕ} → all ≡ false → n ≡ 7 → HeldEmits n out res
@@ -121,7 +121,7 @@ module _ (held out apd : List ℕ) where
   EmitApplied n out′ apd′ =
       (n ≡ emitNumber (heldOf held) (length out))
       × ((out′ ≡ after n (textWith kind.Emit (heldOf held) out) out)
-      × ((apd′ ≡ after n (appliedNumbers kind.Emit (heldOf held)) apd) × (n ≡ 0 → ReportedDemand3 (heldOf held .key) out′ (drop 2 apd′))))
+      × ((apd′ ≡ after n (appliedNumbers kind.Emit (heldOf held)) apd) × (n ≡ 0 → ReportedDemands (heldOf held .key) out′ (drop 2 apd′))))
 
   module _ (res : List ℕ) {n : ℕ} {out′ res′ : List ℕ} (s : HeldEmits held out res n out′ res′) where
     pub emit-refused : (n ≡ 0 → ⊥) → EmitApplied n out′ apd
@@ -182,7 +182,7 @@ module _ (held b out apd : List ℕ) where
       × ((held′ ≡ after n (heldWith (kindIn b) b held) held)
       × ((out′ ≡ after n (textWith (kindIn b) (heldOf held) out) out)
       × ((apd′ ≡ after n (appliedNumbers (kindIn b) (heldOf held)) apd)
-      × (n ≡ 0 → kindIn b ≡ kind.Emit → ReportedDemand3 (heldOf held .key) out′ (drop 2 apd′)))))
+      × (n ≡ 0 → kindIn b ≡ kind.Emit → ReportedDemands (heldOf held .key) out′ (drop 2 apd′)))))
 
   pub apply-refused : {n : ℕ} → n ≡ recordNumber b → (n ≡ 0 → ⊥) → Applies n held out apd
   unfolding appliedNumber
@@ -195,7 +195,7 @@ module _ (held b out apd : List ℕ) where
 
     by-kind : {n : ℕ} {held′ out′ apd′ : List ℕ} → n ≡ onEmit k (emitNumber (heldOf held) (length out)) 0 → held′ ≡ after n (heldWith k b held) held →
         out′ ≡ after n (textWith k (heldOf held) out) out → apd′ ≡ after n (appliedNumbers k (heldOf held)) apd →
-        (n ≡ 0 → k ≡ kind.Emit → ReportedDemand3 (heldOf held .key) out′ (drop 2 apd′)) → Applies n held′ out′ apd′
+        (n ≡ 0 → k ≡ kind.Emit → ReportedDemands (heldOf held .key) out′ (drop 2 apd′)) → Applies n held′ out′ apd′
     by-kind p q r s t = (number p, (rw (← g) q, (rw (← g) r, (rw (← g) s, rw (← g) t))))
 
     pub apply-emitted : {n : ℕ} {out′ apd′ : List ℕ} → k ≡ kind.Emit → EmitApplied held out apd n out′ apd′ → Applies n held out′ apd′

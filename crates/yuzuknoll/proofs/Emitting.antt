@@ -27,7 +27,7 @@ use Rattle.wire.specs.Bodies.{keyKind, specularByte, keyFromBody, variantFromBo
 use Rattle.wire.specs.Reading.{bodyNumber}
 use Rattle.wire.specs.declared.Kind.the-variants as kind
 use Rattle.yuzuknoll.specs.InEffect.{inEffect}
-use Rattle.yuzuknoll.specs.Lent.{after, firstOf, atFront, resultNumbers, ReportedDemand3}
+use Rattle.yuzuknoll.specs.Lent.{after, firstOf, atFront, resultNumbers, ReportedDemands}
 use Rattle.yuzuknoll.specs.Emitting.{bodiesNumber, bodiesText, bodiesResult}
 use Rattle.yuzuknoll.proofs.InEffect.{in-effect}
 use Rattle.yuzuknoll.proofs.Lent.{not-zero, left, first-refused, first-passed, first-zero}
@@ -43,7 +43,7 @@ module _ (k : Key) (v : Variant) (e : Entry) (out res : List ℕ) where
   Emits n out′ res′ =
       (n ≡ emissionNumber k v e (length out))
       × ((out′ ≡ after n (atFront (textOf k v e) out) out)
-      × ((res′ ≡ after n (resultNumbers (emittedOf k v e)) res) × (n ≡ 0 → ReportedDemand3 k out′ res′)))
+      × ((res′ ≡ after n (resultNumbers (emittedOf k v e)) res) × (n ≡ 0 → ReportedDemands k out′ res′)))
 
   -- emission's own promise
   abbrev Promise : Answer → List ℕ → Type 0
@@ -203,7 +203,7 @@ module _ (wide : Bool) (k v e : List ℕ) where
     Answered n out′ res′ =
         (n ≡ bodiesNumber wide k v e (length out))
         × ((out′ ≡ after n (atFront (bodiesText wide k v e) out) out)
-        × ((res′ ≡ after n (bodiesResult wide k v e) res) × (n ≡ 0 → ReportedDemand3 key out′ res′)))
+        × ((res′ ≡ after n (bodiesResult wide k v e) res) × (n ≡ 0 → ReportedDemands key out′ res′)))
 
     module _ {a : ℕ} (p : a ≡ cause) where
       pub bodies-refused : (a ≡ 0 → ⊥) → Answered a out res

@@ -32,7 +32,7 @@ ghost use lib.Seq.{sets};
 ghost use Rattle.records.specs.Applying.{appliedNumber, emitNumber, holdsAll, keyOrDefaults};
 ghost use Rattle.wire.specs.Bodies.{bodyLength, recordLength};
 ghost use Rattle.yuzuknoll.specs.InEffect.{inEffect};
-ghost use Rattle.yuzuknoll.specs.Lent.{ReportedDemand3, after, recordNumbers};
+ghost use Rattle.yuzuknoll.specs.Lent.{ReportedDemands, after, recordNumbers};
 ghost use Rattle.yuzuknoll.specs.Records.{kindIn};
 ghost use Rattle.yuzuknoll.specs.Applying.{appliedNumbers, heldLength, heldOf, heldWith, isRecord, noResult, placeOf, resultWith, textWith};
 
@@ -140,7 +140,7 @@ fn emit_held(held: &[u8], text: &mut [u8], result: &mut [u64; RESULT_LENGTH]) ->
     ensures number { λ r. ⌜ r ≡ emitNumber (heldOf (now (held .entry))) (length (now (text .entry))) ⌝ }
     ensures text { λ r. ⌜ now (text .exit) ≡ after r (textWith Kind.Emit (heldOf (now (held .entry))) (now (text .entry))) (now (text .entry)) ⌝ }
     ensures result { λ r. ⌜ now (result .exit) ≡ after r (resultWith Kind.Emit (heldOf (now (held .entry)))) (now (result .entry)) ⌝ }
-    ensures names { λ r. ⌜ (r ≡ 0 → ReportedDemand3 (heldOf (now (held .entry)) .key) (now (text .exit)) (now (result .exit))) ⌝ }
+    ensures names { λ r. ⌜ (r ≡ 0 → ReportedDemands (heldOf (now (held .entry)) .key) (now (text .exit)) (now (result .exit))) ⌝ }
 {
     if !holds_all(held) {
         return refuse(Refusal::EmitTooEarly);
@@ -217,7 +217,7 @@ fn emit_record(held: &[u8], text: &mut [u8], applied: &mut [u64; APPLIED_LENGTH]
     ensures number { λ r. ⌜ r ≡ emitNumber (heldOf (now (held .entry))) (length (now (text .entry))) ⌝ }
     ensures text { λ r. ⌜ now (text .exit) ≡ after r (textWith Kind.Emit (heldOf (now (held .entry))) (now (text .entry))) (now (text .entry)) ⌝ }
     ensures applied { λ r. ⌜ now (applied .exit) ≡ after r (appliedNumbers Kind.Emit (heldOf (now (held .entry)))) (now (applied .entry)) ⌝ }
-    ensures names { λ r. ⌜ (r ≡ 0 → ReportedDemand3 (heldOf (now (held .entry)) .key) (now (text .exit)) (drop 2 (now (applied .exit)))) ⌝ }
+    ensures names { λ r. ⌜ (r ≡ 0 → ReportedDemands (heldOf (now (held .entry)) .key) (now (text .exit)) (drop 2 (now (applied .exit)))) ⌝ }
 {
     let mut result = [0u64; RESULT_LENGTH];
     let number = emit_held(held, text, &mut result);
@@ -241,7 +241,7 @@ pub extern "C" fn yuzuknoll_apply(
     ensures held { λ r. ⌜ now (held .exit) ≡ after r (heldWith (kindIn (now (bytes .entry))) (now (bytes .entry)) (now (held .entry))) (now (held .entry)) ⌝ }
     ensures text { λ r. ⌜ now (text .exit) ≡ after r (textWith (kindIn (now (bytes .entry))) (heldOf (now (held .entry))) (now (text .entry))) (now (text .entry)) ⌝ }
     ensures applied { λ r. ⌜ now (applied .exit) ≡ after r (appliedNumbers (kindIn (now (bytes .entry))) (heldOf (now (held .entry)))) (now (applied .entry)) ⌝ }
-    ensures names { λ r. ⌜ (r ≡ 0 → kindIn (now (bytes .entry)) ≡ Kind.Emit → ReportedDemand3 (heldOf (now (held .entry)) .key) (now (text .exit)) (drop 2 (now (applied .exit)))) ⌝ }
+    ensures names { λ r. ⌜ (r ≡ 0 → kindIn (now (bytes .entry)) ≡ Kind.Emit → ReportedDemands (heldOf (now (held .entry)) .key) (now (text .exit)) (drop 2 (now (applied .exit)))) ⌝ }
 {
     let number = record_number(bytes);
     if number != ACCEPTED {

@@ -26,7 +26,7 @@ ghost use Rattle.cascade.specs.Effective.{effectiveStages};
 ghost use Rattle.shader.specs.Results.{emissionNumber, emittedOf, textOf};
 ghost use Rattle.wire.specs.Bodies.{keyFromBody};
 ghost use Rattle.wire.specs.Reading.{bodyNumber};
-ghost use Rattle.yuzuknoll.specs.Lent.{ReportedDemand3, after, atFront, firstOf, resultNumbers};
+ghost use Rattle.yuzuknoll.specs.Lent.{ReportedDemands, after, atFront, firstOf, resultNumbers};
 ghost use Rattle.yuzuknoll.specs.Emitting.{bodiesNumber, bodiesResult, bodiesText};
 
 // How many bytes the bodies have.
@@ -68,7 +68,7 @@ pub(crate) fn emit_values(
     ensures number { λ r. ⌜ r ≡ emissionNumber key variant entry (length (now (text .entry))) ⌝ }
     ensures text { λ r. ⌜ now (text .exit) ≡ after r (atFront (textOf key variant entry) (now (text .entry))) (now (text .entry)) ⌝ }
     ensures result { λ r. ⌜ now (result .exit) ≡ after r (resultNumbers (emittedOf key variant entry)) (now (result .entry)) ⌝ }
-    ensures names { λ r. ⌜ (r ≡ 0 → ReportedDemand3 key (now (text .exit)) (now (result .exit))) ⌝ }
+    ensures names { λ r. ⌜ (r ≡ 0 → ReportedDemands key (now (text .exit)) (now (result .exit))) ⌝ }
 {
     match emit_checked(key, variant, entry, text) {
         Answer::Refused(cause) => refuse(cause),
@@ -107,7 +107,7 @@ pub extern "C" fn yuzuknoll_emit(
     ensures number { λ r. ⌜ r ≡ bodiesNumber false (now (key .entry)) (now (variant .entry)) (now (entry .entry)) (length (now (text .entry))) ⌝ }
     ensures text { λ r. ⌜ now (text .exit) ≡ after r (atFront (bodiesText false (now (key .entry)) (now (variant .entry)) (now (entry .entry))) (now (text .entry))) (now (text .entry)) ⌝ }
     ensures result { λ r. ⌜ now (result .exit) ≡ after r (bodiesResult false (now (key .entry)) (now (variant .entry)) (now (entry .entry))) (now (result .entry)) ⌝ }
-    ensures names { λ r. ⌜ (r ≡ 0 → ReportedDemand3 (keyFromBody false (now (key .entry))) (now (text .exit)) (now (result .exit))) ⌝ }
+    ensures names { λ r. ⌜ (r ≡ 0 → ReportedDemands (keyFromBody false (now (key .entry))) (now (text .exit)) (now (result .exit))) ⌝ }
 {
     let k = raw_key(key);
     let refused = bodies_cause(narrow_key_number(key), variant, entry);
@@ -134,7 +134,7 @@ pub extern "C" fn yuzuknoll_emit_wide(
     ensures number { λ r. ⌜ r ≡ bodiesNumber true (now (key .entry)) (now (variant .entry)) (now (entry .entry)) (length (now (text .entry))) ⌝ }
     ensures text { λ r. ⌜ now (text .exit) ≡ after r (atFront (bodiesText true (now (key .entry)) (now (variant .entry)) (now (entry .entry))) (now (text .entry))) (now (text .entry)) ⌝ }
     ensures result { λ r. ⌜ now (result .exit) ≡ after r (bodiesResult true (now (key .entry)) (now (variant .entry)) (now (entry .entry))) (now (result .entry)) ⌝ }
-    ensures names { λ r. ⌜ (r ≡ 0 → ReportedDemand3 (keyFromBody true (now (key .entry))) (now (text .exit)) (now (result .exit))) ⌝ }
+    ensures names { λ r. ⌜ (r ≡ 0 → ReportedDemands (keyFromBody true (now (key .entry))) (now (text .exit)) (now (result .exit))) ⌝ }
 {
     let k = wide_key(key);
     let refused = bodies_cause(wide_key_number(key), variant, entry);
