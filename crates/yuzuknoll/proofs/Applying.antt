@@ -32,8 +32,8 @@ use Rattle.yuzuknoll.proofs.Checking.{taken}
 use Rattle.emission.proofs.InPlace.{takes-place}
 use Rattle.cascade.specs.Effective.{effectiveStages}
 use Rattle.values.specs.Flags.{stageFlagsBad}
-use Rattle.yuzuknoll.specs.InEffect.{inEffect}
-use Rattle.yuzuknoll.proofs.InEffect.{in-effect}
+use Rattle.yuzuknoll.specs.Raw.{inPlaceOf}
+use Rattle.yuzuknoll.proofs.Raw.{in-place}
 use Rattle.yuzuknoll.proofs.Emitting.{Emits, admitted, body-free, place-emits}
 
 -- eight numbers, one by one
@@ -73,7 +73,7 @@ held-key-free held t =
     body-free (heldWide held) (heldBody kind.Key held) (held-free (keyKind (heldWide held)) (heldByte kind.Key held) (heldBody kind.Key held) t)
 
 -- values read from bytes that hold all three
-module _ (held : List ℕ) {k : Key} {v : Variant} {e : Entry} (p : k ≡ inEffect (heldOf held .key))
+module _ (held : List ℕ) {k : Key} {v : Variant} {e : Entry} (p : k ≡ inPlaceOf (heldWide held) (heldBody kind.Key held))
     (q : v ≡ variantFromBody (heldBody kind.Variant held)) (r : e ≡ entryFromBody (heldBody kind.Entry held)) where
   pub held-admitted : holdsAll (heldOf held) ≡ true → (effectiveStages k ≡ k .stages) × Admitted k v e
   unfolding heldOf
@@ -82,7 +82,7 @@ module _ (held : List ℕ) {k : Key} {v : Variant} {e : Entry} (p : k ≡ inEffe
       let u = both (heldOf held .«has_variant») (heldOf held .«has_entry») (s .1) in
       let free = held-key-free held (s .0) in
       rw (q, r)
-      (takes-place (in-effect (heldOf held .key) free) _ _ p (admitted (heldOf held .key) free (heldBody kind.Variant held) (heldBody kind.Entry held)
+      (takes-place (in-place (heldWide held) (heldBody kind.Key held) _ _) p (admitted (heldOf held .key) free (heldBody kind.Variant held) (heldBody kind.Entry held)
       (held-free kind.Variant (heldByte kind.Variant held) (heldBody kind.Variant held) (u .0))
       (held-free kind.Entry (heldByte kind.Entry held) (heldBody kind.Entry held) (u .1))))
 
@@ -101,13 +101,12 @@ module _ (held out res : List ℕ) where
         let h : n ≡ 0 → ⊥ = λ z. not-zero EmitTooEarly (sym q ∙ z) in
         (rw (sym e ∙ f) q, (left _ out h, (left _ res h, λ z. absurd (h z))))
 
-    pub held-emitted : {n : ℕ} {out′ res′ : List ℕ} {k : Key} {v : Variant} {x : Entry} → all ≡ true → k ≡ inEffect (heldOf held .key) →
+    pub held-emitted : {n : ℕ} {out′ res′ : List ℕ} {k : Key} {v : Variant} {x : Entry} → all ≡ true → k ≡ inPlaceOf (heldWide held) (heldBody kind.Key held) →
         v ≡ variantFromBody (heldBody kind.Variant held) → x ≡ entryFromBody (heldBody kind.Entry held) → Emits k v x out res n out′ res′ →
         HeldEmits n out′ res′
     unfolding heldOf emitNumber textWith resultWith
     held-emitted t p q r s =
-        let free = held-key-free held (both (heldOf held .«has_key») (heldOf held .«has_variant» && heldOf held .«has_entry») (sym e ∙ t) .0) in
-        let y = place-emits (in-effect (heldOf held .key) free) _ _ out res (rw (p, q, r) at s) in
+        let y = place-emits (in-place (heldWide held) (heldBody kind.Key held) _ _) out res (rw (p, q, r) at s) in
         (rw (sym e ∙ t) (y .0), y .1)
 
 -- a record laid over its part

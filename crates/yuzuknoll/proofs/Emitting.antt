@@ -21,15 +21,15 @@ use Rattle.values.specs.declared.Answer.{Answer}
 use Rattle.values.specs.declared.Answer.the-variants.{Text, Refused}
 use Rattle.shader.specs.Results.{emittedOf, textOf, answerOf, answerNumber, emissionNumber, bufferAfter}
 use Rattle.shader.specs.Demand.{Demanded}
-use Rattle.emission.proofs.InPlace.{InPlace, takes-place, place-text, place-number, place-emitted, place-demand}
+use Rattle.emission.proofs.InPlace.{InPlace, takes-place, place-number, place-demand}
 use Rattle.cascade.specs.Effective.{effectiveStages}
 use Rattle.wire.specs.Bodies.{keyKind, specularByte, keyFromBody, variantFromBody, entryFromBody}
 use Rattle.wire.specs.Reading.{bodyNumber}
 use Rattle.wire.specs.declared.Kind.the-variants as kind
-use Rattle.yuzuknoll.specs.InEffect.{inEffect}
+use Rattle.yuzuknoll.specs.Raw.{inPlaceOf}
 use Rattle.yuzuknoll.specs.Lent.{after, firstOf, atFront, resultNumbers, ReportedDemands}
 use Rattle.yuzuknoll.specs.Emitting.{bodiesNumber, bodiesText, bodiesResult}
-use Rattle.yuzuknoll.proofs.InEffect.{in-effect}
+use Rattle.yuzuknoll.proofs.Raw.{in-place}
 use Rattle.yuzuknoll.proofs.Lent.{not-zero, left, first-refused, first-passed, first-zero}
 
 -- yes as 1 and no as 0 tells which it was
@@ -79,12 +79,12 @@ module _ (k : Key) (v : Variant) (e : Entry) (out res : List ℕ) where
       (p′ .1 .1 .1, (p′ .1 .0, (q ∙ ap resultNumbers (accepted (sym (p′ .0))), λ z. rw (q, told) (p′ .1 .1 .0))))
 
 -- A key in the place of another is emitted as that one is.
-module _ {r k : Key} (p : InPlace r k) (v : Variant) (e : Entry) where
+module _ {r k : Key} {v : Variant} {e : Entry} (p : InPlace r k v e) where
   pub place-emits : (out res : List ℕ) {n : ℕ} {out′ res′ : List ℕ} → Emits r v e out res n out′ res′ → Emits k v e out res n out′ res′
   place-emits out res {n} s =
-      let texts = ap (λ (t : List ℕ). after n (atFront t out) out) (place-text p v e) in
-      let results = ap (λ (m : Emitted). after n (resultNumbers m) res) (place-emitted p v e) in
-      (s .0 ∙ place-number p v e (length out), (s .1 .0 ∙ texts, (s .1 .1 .0 ∙ results, λ z. place-demand p (s .1 .1 .1 z))))
+      let texts = ap (λ (t : List ℕ). after n (atFront t out) out) (p .sameText) in
+      let results = ap (λ (m : Emitted). after n (resultNumbers m) res) (p .sameEmitted) in
+      (s .0 ∙ place-number p (length out), (s .1 .0 ∙ texts, (s .1 .1 .0 ∙ results, λ z. place-demand p (s .1 .1 .1 z))))
 
 -- What the numbers of bodies tell of their values.
 
@@ -155,11 +155,6 @@ admitted key free v e q r =
       entryWord = named .1;
     }
 
--- a key of kind 6 is emitted as it is
-pub wide-in-effect : (k : List ℕ) {key : Key} → key ≡ keyFromBody true k → key ≡ inEffect (keyFromBody true k)
-unfolding keyFromBody
-wide-in-effect k e = e
-
 -- Emission from three bodies.
 module _ (wide : Bool) (k v e : List ℕ) where
   abbrev key : Key
@@ -181,15 +176,12 @@ module _ (wide : Bool) (k v e : List ℕ) where
   abbrev cause : ℕ
   cause = firstOf keyCause otherCause
 
-  in-place : cause ≡ 0 → InPlace (inEffect key) key
-  in-place z = in-effect key (body-free wide k (first-zero keyCause otherCause z .0))
-
-  pub bodies-admitted : {key′ : Key} {variant′ : Variant} {entry′ : Entry} → cause ≡ 0 → key′ ≡ inEffect key → variant′ ≡ variant → entry′ ≡ entry
+  pub bodies-admitted : {key′ : Key} {variant′ : Variant} {entry′ : Entry} → cause ≡ 0 → key′ ≡ inPlaceOf wide k → variant′ ≡ variant → entry′ ≡ entry
       → (effectiveStages key′ ≡ key′ .stages) × Admitted key′ variant′ entry′
   bodies-admitted z f g h =
       let t = first-zero keyCause otherCause z in
       let u = first-zero (bodyNumber kind.Variant v) (bodyNumber kind.Entry e) (t .1) in
-      rw (g, h) (takes-place (in-place z) variant entry f (admitted key (body-free wide k (t .0)) v e (u .0) (u .1)))
+      rw (g, h) (takes-place (in-place wide k variant entry) f (admitted key (body-free wide k (t .0)) v e (u .0) (u .1)))
 
   number : (room : ℕ) → bodiesNumber wide k v e room ≡ firstOf cause (cond (ltb room (length (textOf key variant entry))) 8 0)
   unfolding bodyNumber emissionNumber
@@ -211,8 +203,8 @@ module _ (wide : Bool) (k v e : List ℕ) where
 
       -- where the bodies have no cause, emission answers what they answer
       pub bodies-emitted : {n : ℕ} {out′ res′ : List ℕ} {key′ : Key} {variant′ : Variant} {entry′ : Entry} → a ≡ 0
-          → key′ ≡ inEffect key → variant′ ≡ variant → entry′ ≡ entry
+          → key′ ≡ inPlaceOf wide k → variant′ ≡ variant → entry′ ≡ entry
           → Emits key′ variant′ entry′ out res n out′ res′ → Answered n out′ res′
       bodies-emitted z f g h s =
-          let t = place-emits (in-place (sym p ∙ z)) variant entry out res (rw (f, g, h) at s) in
+          let t = place-emits (in-place wide k variant entry) out res (rw (f, g, h) at s) in
           (first-passed {n = keyCause} refl (first-zero keyCause otherCause (sym p ∙ z) .0) (t .0), t .1)

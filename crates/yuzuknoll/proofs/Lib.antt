@@ -1,6 +1,6 @@
 mod Lent
 mod Checking
-mod InEffect
+mod Raw
 mod Emitting
 pub mod Records
 mod Applying

@@ -4,10 +4,8 @@ use crate::check::entry_number;
 use crate::check::narrow_key_number;
 use crate::check::variant_number;
 use crate::check::wide_key_number;
-use crate::keys::any_of_three;
-use crate::keys::raw_key;
+use crate::keys::narrow_in_place;
 use crate::refuse;
-use cascade::effective::effective;
 use emission::Answer;
 use emission::Emitted;
 use emission::emit_checked;
@@ -93,9 +91,8 @@ fn bodies_cause(key_refused: u64, variant: &[u8; VARIANT_LENGTH], entry: &[u8; E
     entry_number(entry)
 }
 
-// A key is read before the causes are looked for. Its bytes are stored one by one, and whoever copies it whole right behind that waits for them.
-
-// Writes the text of a key, a variant and an entry to the front of text, and its length, mask, rows, lookups and warnings to result.
+// Writes the text of a key, a variant and an entry to the front of text, and its length, mask, rows, lookups and warnings to result. The key is read
+// first: its bytes are stored a few at a time, and whoever copies it whole right behind that waits for them.
 #[no_mangle]
 pub extern "C" fn yuzuknoll_emit(
     key: &[u8; KEY_LENGTH],
@@ -109,16 +106,13 @@ pub extern "C" fn yuzuknoll_emit(
     ensures result { λ r. ⌜ now (result .exit) ≡ after r (bodiesResult false (now (key .entry)) (now (variant .entry)) (now (entry .entry))) (now (result .entry)) ⌝ }
     ensures names { λ r. ⌜ (r ≡ 0 → ReportedDemands (keyFromBody false (now (key .entry))) (now (text .exit)) (now (result .exit))) ⌝ }
 {
-    let k = raw_key(key);
+    let k = narrow_in_place(key);
     let refused = bodies_cause(narrow_key_number(key), variant, entry);
     if refused != ACCEPTED {
         return refused;
     }
     let v = variant_from_body(variant);
     let e = entry_from_body(entry);
-    if any_of_three(key) {
-        return emit_values(effective(k), v, e, text, result);
-    }
     emit_values(k, v, e, text, result)
 }
 

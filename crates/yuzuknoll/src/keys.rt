@@ -1,4 +1,5 @@
-//! A key of kind 1 as its bytes lie, for emission: in what order, and how many at once, decides how quickly they are read.
+//! The key that is emitted in the place of one of kind 1, read as its bytes lie.
+use cascade::effective::effective;
 use combiners::ops::three_operands;
 use values::Combiner;
 use values::Key;
@@ -11,7 +12,7 @@ ghost use lib.ListN.{drop, getD, length};
 ghost use Rattle.combiners.specs.Combiners.{threeOperands};
 ghost use Rattle.cascade.specs.Effective.{anyOfThree};
 ghost use Rattle.wire.specs.Bodies.{bodyLength};
-ghost use Rattle.yuzuknoll.specs.Raw.{rawKey, rawStage, rawStages};
+ghost use Rattle.yuzuknoll.specs.Raw.{narrowInPlace, rawKey, rawStage, rawStages};
 
 const STAGE_BYTES: usize = 7;
 
@@ -56,7 +57,7 @@ fn raw_stages(body: &[u8]) -> [Stage; 8]
     [a, b, c, d, e, f, g, h]
 }
 
-pub(crate) fn raw_key(body: &[u8]) -> Key
+fn raw_key(body: &[u8]) -> Key
     requires { ⌜ bodyLength Kind.Key ≤ length (now body) ⌝ }
     ensures { λ r. ⌜ r ≡ rawKey (now (body .entry)) ⌝ }
 {
@@ -78,7 +79,7 @@ fn of_three(body: &[u8], at: usize) -> bool
 }
 
 // Some op has: few keys of kind 1 do.
-pub(crate) fn any_of_three(body: &[u8]) -> bool
+fn any_of_three(body: &[u8]) -> bool
     requires { ⌜ bodyLength Kind.Key ≤ length (now body) ⌝ }
     ensures { λ r. ⌜ r ≡ anyOfThree (rawStages (now (body .entry))) ⌝ }
 {
@@ -89,4 +90,14 @@ pub(crate) fn any_of_three(body: &[u8]) -> bool
         | (of_three(body, 5 * STAGE_BYTES)
             | (of_three(body, 6 * STAGE_BYTES) | of_three(body, 7 * STAGE_BYTES)));
     front | back
+}
+
+pub(crate) fn narrow_in_place(body: &[u8]) -> Key
+    requires { ⌜ bodyLength Kind.Key ≤ length (now body) ⌝ }
+    ensures { λ r. ⌜ r ≡ narrowInPlace (now (body .entry)) ⌝ }
+{
+    if any_of_three(body) {
+        return effective(raw_key(body));
+    }
+    raw_key(body)
 }

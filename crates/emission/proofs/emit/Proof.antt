@@ -70,7 +70,7 @@ admitted c =
 emit-checked-requires : tie.Need-emit-checked-requires
 emit-checked-requires c κs =
     let eff = c .before in
-    takes-place (effective-in-place _) _ _ (eff .effective .ensures) (admitted (eff .before))
+    takes-place (effective-in-place _ _ _) (eff .effective .ensures) (admitted (eff .before))
 
 returns-5 : tie.Need-returns-5
 returns-5 c =
@@ -81,9 +81,9 @@ returns-5 c =
     let v = s .args .variant in
     let e = s .args .entry in
     let w = rw (eff .effective .ensures) at (p .emit-checked .ensures) in
-    let place = effective-in-place k in
-    let a = w .0 ∙ place-answer place v e _ in
-    let b = rw (place .sameText v e) at (w .1 .0) in
+    let place = effective-in-place k v e in
+    let a = w .0 ∙ place-answer place _ in
+    let b = rw (place .sameText) at (w .1 .0) in
     (a, (b, (demanded k v e _ _ (omega (arith, eight s)) (admitted (eff .before)) _ a b, numbered k v e _ a)))
 
 pub emit-spec : {M : Type 1} → statement M

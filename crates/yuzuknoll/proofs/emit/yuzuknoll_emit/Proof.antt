@@ -19,7 +19,7 @@ emit-values-requires c κs =
     let r = s .before in
     let n = r .before in
     bodies-admitted false _ _ _ (rw (← n .narrow-key-number .ensures) (sym (r .bodies-cause .ensures) ∙ s .if1 .left))
-    (n .before .before .narrow-in-effect .ensures) (v .variant-from-body .ensures) (e .entry-from-body .ensures)
+    (n .before .before .narrow-in-place .ensures) (v .variant-from-body .ensures) (e .entry-from-body .ensures)
 
 returns-2 : tie.Need-returns-2
 returns-2 c =
@@ -30,7 +30,7 @@ returns-2 c =
     let r = s .before in
     let n = r .before in
     bodies-emitted false _ _ _ _ _ (rw (← n .narrow-key-number .ensures) (r .bodies-cause .ensures)) (s .if1 .left)
-    (n .before .before .narrow-in-effect .ensures) (v .variant-from-body .ensures) (e .entry-from-body .ensures) (m .emit-values .ensures)
+    (n .before .before .narrow-in-place .ensures) (v .variant-from-body .ensures) (e .entry-from-body .ensures) (m .emit-values .ensures)
 
 pub yuzuknoll-emit-spec : {M : Type 1} → statement M
 yuzuknoll-emit-spec =

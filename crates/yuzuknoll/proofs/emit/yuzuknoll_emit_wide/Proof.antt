@@ -2,7 +2,7 @@
 use mathlib.Core.Bool.{true}
 use mathlib.Core.Path.{sym, _∙_}
 use borrow.Author.Needs.{needs}
-use Rattle.yuzuknoll.proofs.Emitting.{wide-in-effect, bodies-admitted, bodies-refused, bodies-emitted}
+use Rattle.yuzuknoll.proofs.Emitting.{bodies-admitted, bodies-refused, bodies-emitted}
 use Rattle.yuzuknoll.proofs.emit.yuzuknoll_emit_wide.Statement.{statement}
 use Rattle.yuzuknoll.proofs.emit.yuzuknoll_emit_wide.Tie as tie
 
@@ -19,7 +19,7 @@ emit-values-requires c κs =
     let r = s .before in
     let n = r .before in
     bodies-admitted true _ _ _ (rw (← n .wide-key-number .ensures) (sym (r .bodies-cause .ensures) ∙ s .if1 .left))
-    (wide-in-effect _ (n .before .before .wide-key .ensures)) (v .variant-from-body .ensures) (e .entry-from-body .ensures)
+    (n .before .before .wide-key .ensures) (v .variant-from-body .ensures) (e .entry-from-body .ensures)
 
 returns-2 : tie.Need-returns-2
 returns-2 c =
@@ -30,7 +30,7 @@ returns-2 c =
     let r = s .before in
     let n = r .before in
     bodies-emitted true _ _ _ _ _ (rw (← n .wide-key-number .ensures) (r .bodies-cause .ensures)) (s .if1 .left)
-    (wide-in-effect _ (n .before .before .wide-key .ensures)) (v .variant-from-body .ensures) (e .entry-from-body .ensures) (m .emit-values .ensures)
+    (n .before .before .wide-key .ensures) (v .variant-from-body .ensures) (e .entry-from-body .ensures) (m .emit-values .ensures)
 
 pub yuzuknoll-emit-wide-spec : {M : Type 1} → statement M
 yuzuknoll-emit-wide-spec =

@@ -1,21 +1,17 @@
 -- The kind byte tells which kind of key the body is read as.
 use borrow.Author.Tests.{ne-eqb}
-use Rattle.wire.specs.Bodies.{keyFromBody}
-use Rattle.yuzuknoll.specs.Applying.{heldOf}
 use borrow.Author.Needs.{needs}
-use Rattle.yuzuknoll.proofs.apply.held_in_effect.Statement.{statement}
-use Rattle.yuzuknoll.proofs.apply.held_in_effect.Tie as tie
+use Rattle.yuzuknoll.proofs.apply.held_in_place.Statement.{statement}
+use Rattle.yuzuknoll.proofs.apply.held_in_place.Tie as tie
 
 returns : tie.Need-returns
-unfolding heldOf keyFromBody
 returns c = rw (c .before .before .if1 .taken) (c .wide-key .ensures)
 
 returns-2 : tie.Need-returns-2
-unfolding heldOf
-returns-2 c = rw (ne-eqb _ _ (c .before .before .if1 .left)) (c .narrow-in-effect .ensures)
+returns-2 c = rw (ne-eqb _ _ (c .before .before .if1 .left)) (c .narrow-in-place .ensures)
 
-pub held-in-effect-spec : {M : Type 1} → statement M
-held-in-effect-spec =
+pub held-in-place-spec : {M : Type 1} → statement M
+held-in-place-spec =
     tie.close
     (tie.spec
     (λ c. search needs)

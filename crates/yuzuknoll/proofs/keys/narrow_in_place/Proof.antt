@@ -1,0 +1,15 @@
+-- The test picks the key.
+use mathlib.Core.Path.{sym, ap, _∙_}
+use Rattle.cascade.specs.Effective.{effective}
+use borrow.Author.Needs.{needs}
+use Rattle.yuzuknoll.proofs.keys.narrow_in_place.Statement.{statement}
+use Rattle.yuzuknoll.proofs.keys.narrow_in_place.Tie as tie
+
+returns : tie.Need-returns
+returns c = c .nope
+
+returns-2 : tie.Need-returns-2
+returns-2 c = c .nope
+
+pub narrow-in-place-spec : {M : Type 1} → statement M
+narrow-in-place-spec = tie.close (tie.spec (λ c κs. search needs) (λ c κs. search needs) (λ c κs. tt) returns (λ c κs. search needs) returns-2)
