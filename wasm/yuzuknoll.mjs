@@ -154,13 +154,17 @@ export class BadValue extends TypeError {
 
 // ---- Values and their bytes ----
 
-// A layout puts a value into bytes at a place, and gets it back. A field that is left out has its default.
+// A layout puts a value into bytes at a place, and gets it back. A field that is left out has its default. Where a value stands is said by what it is in,
+// and is put into words only for an error.
+
+const pathOf = (outer, step) => (outer === null ? step : pathOf(outer.outer, outer.step) + step);
 
 const number = (size, most, expected, byDefault = 0) => ({
     size,
-    put(bytes, at, value = byDefault, path) {
-        if (!Number.isInteger(value) || value < 0 || value > most) throw new BadValue(path, expected);
-        for (let i = 0; i < size; i++) bytes[at + i] = Math.floor(value / 256 ** i) % 256;
+    put(bytes, at, value = byDefault, outer, step) {
+        if (!Number.isInteger(value) || value < 0 || value > most) throw new BadValue(pathOf(outer, step), expected);
+        bytes[at] = value;
+        for (let i = 1; i < size; i++) bytes[at + i] = Math.floor(value / 256 ** i);
     },
     get(bytes, at) {
         let value = 0;
@@ -175,30 +179,30 @@ const long = number(4, 0xffffffff, "a number from 0 to 4294967295");
 
 const flag = {
     size: 1,
-    put(bytes, at, value = false, path) {
-        if (typeof value !== "boolean") throw new BadValue(path, "true or false");
+    put(bytes, at, value = false, outer, step) {
+        if (typeof value !== "boolean") throw new BadValue(pathOf(outer, step), "true or false");
         bytes[at] = value ? 1 : 0;
     },
     get: (bytes, at) => bytes[at] !== 0,
 };
 
 const struct = (fields) => {
-    const parts = Object.entries(fields);
-    const size = parts.reduce((sum, [, field]) => sum + field.size, 0);
+    const parts = Object.entries(fields).map(([name, field]) => ({ name, field, step: `.${name}` }));
     return {
-        size,
-        put(bytes, at, value = {}, path) {
-            if (typeof value !== "object" || value === null || Array.isArray(value)) throw new BadValue(path, "an object");
-            const unknown = Object.keys(value).find((name) => !Object.hasOwn(fields, name));
-            if (unknown !== undefined) throw new BadValue(`${path}.${unknown}`, `one of the fields ${Object.keys(fields).join(", ")}`);
-            for (const [name, field] of parts) {
-                field.put(bytes, at, value[name], `${path}.${name}`);
-                at += field.size;
+        size: parts.reduce((sum, { field }) => sum + field.size, 0),
+        put(bytes, at, value = {}, outer, step) {
+            const here = { outer, step };
+            if (typeof value !== "object" || value === null || Array.isArray(value)) throw new BadValue(pathOf(outer, step), "an object");
+            for (const name of Object.keys(value))
+                if (!Object.hasOwn(fields, name)) throw new BadValue(pathOf(here, `.${name}`), `one of the fields ${Object.keys(fields).join(", ")}`);
+            for (const part of parts) {
+                part.field.put(bytes, at, value[part.name], here, part.step);
+                at += part.field.size;
             }
         },
         get(bytes, at) {
             const value = {};
-            for (const [name, field] of parts) {
+            for (const { name, field } of parts) {
                 value[name] = field.get(bytes, at);
                 at += field.size;
             }
@@ -209,9 +213,10 @@ const struct = (fields) => {
 
 const eight = (element) => ({
     size: STAGES * element.size,
-    put(bytes, at, value = [], path) {
-        if (!Array.isArray(value) || value.length > STAGES) throw new BadValue(path, "an array of at most eight stages");
-        for (let i = 0; i < STAGES; i++) element.put(bytes, at + i * element.size, value[i], `${path}[${i}]`);
+    put(bytes, at, value = [], outer, step) {
+        const here = { outer, step };
+        if (!Array.isArray(value) || value.length > STAGES) throw new BadValue(pathOf(outer, step), "an array of at most eight stages");
+        for (let i = 0; i < STAGES; i++) element.put(bytes, at + i * element.size, value[i], here, `[${i}]`);
     },
     get: (bytes, at) => Array.from({ length: STAGES }, (_, i) => element.get(bytes, at + i * element.size)),
 });
@@ -223,8 +228,8 @@ const NAME_LENGTH = 32;
 // The library decides what a name is, its length included. A name whose length has no byte is given one that it refuses.
 const name = {
     size: 1 + NAME_LENGTH,
-    put(bytes, at, value, path) {
-        if (typeof value !== "string") throw new BadValue(path, "a string");
+    put(bytes, at, value, outer, step) {
+        if (typeof value !== "string") throw new BadValue(pathOf(outer, step), "a string");
         const { read, written } = utf8.encodeInto(value, bytes.subarray(at + 1, at + 1 + NAME_LENGTH));
         bytes[at] = read === value.length ? written : 0xff;
         bytes.fill(0, at + 1 + written, at + 1 + NAME_LENGTH);
@@ -254,8 +259,8 @@ const variant = struct({
 const stateWrite = struct({ stage: byte(), type: byte(), value: long });
 const nothing = {
     size: 0,
-    put(bytes, at, value, path) {
-        if (value !== undefined) throw new BadValue(path, "left out");
+    put(bytes, at, value, outer, step) {
+        if (value !== undefined) throw new BadValue(pathOf(outer, step), "left out");
     },
     get: () => undefined,
 };
@@ -276,7 +281,7 @@ const MOST_RECORD_LENGTH = 1 + wideKey.size;
 // The bytes are made aside, and go to the module's memory when all of a call's are there.
 function encode(layout, value, path) {
     const bytes = new Uint8Array(layout.size);
-    layout.put(bytes, 0, value, path);
+    layout.put(bytes, 0, value, null, path);
     return bytes;
 }
 
