@@ -252,7 +252,7 @@ const tests = {
 
     "a value without bytes is named": () => {
         const cases = {
-            key: [null, 1, "key", [], () => {}, true, Symbol("key")],
+            key: [undefined, null, 1, "key", [], () => {}, true, Symbol("key")],
             "key.stages": [null, 8, "", {}, Array(9).fill(lit), new Uint8Array(8)].map((stages) => ({ stages })),
             "key.stages[1]": [null, 1, [], "", false].map((stage) => ({ stages: [lit, stage] })),
             "key.stages[0].colour": [null, 4, []].map((colour) => ({ stages: [{ colour }] })),
@@ -268,12 +268,17 @@ const tests = {
         assert.throws(() => library.emit(key, null, "m"), bad("variant"));
         for (const name of [undefined, null, 1, {}, ["m"], Symbol("m")]) assert.throws(() => library.emit(key, {}, name), bad("entry"));
         for (const buffer of [null, 16384, [], new ArrayBuffer(9), new Uint16Array(9)]) assert.throws(() => library.emit(key, {}, "m", buffer), bad("buffer"));
-        for (const bytes of [undefined, null, "abc", [1], new DataView(new ArrayBuffer(9))]) assert.throws(() => library.read(bytes), bad("bytes"));
+        const feigned = { [Symbol.toStringTag]: "Uint8Array", length: 1 };
+        for (const bytes of [undefined, null, "abc", [1], new DataView(new ArrayBuffer(9)), feigned]) assert.throws(() => library.read(bytes), bad("bytes"));
         for (const record of [undefined, null, 4]) assert.throws(() => library.toBytes(record), bad("record"));
         for (const kind of [undefined, 0, 7, 1.5, "4", "toString"]) assert.throws(() => library.toBytes({ kind }), bad("record.kind"));
         assert.throws(() => library.toBytes({ kind: Kind.EMIT, value: 0 }), bad("record.value"));
+        assert.throws(() => library.toBytes({ kind: Kind.KEY }), bad("record.value"));
+        assert.throws(() => library.toBytes({ kind: Kind.KEY, key }), bad("record.key"));
         assert.throws(() => library.toBytes({ kind: Kind.STATE, value: { value: 2 ** 32 } }), bad("record.value.value"));
         assert.throws(() => library.write({ kind: Kind.EMIT }, null), bad("out"));
+        for (const warnings of [undefined, null, 1]) assert.throws(() => describeWarnings(warnings), bad("warnings"));
+        assert.throws(() => describeWarnings({ op: 1n }), bad("warnings.op"));
         for (const held of [null, [], new Uint8Array(128)]) assert.throws(() => library.session(held), bad("held"));
     },
 
@@ -300,6 +305,7 @@ const tests = {
                 () => library.toBytes({ kind: below(8), value: given(key) }),
                 () => library.session(given(undefined)).apply(given(someBytes(80, 7)), any()),
                 () => library.entryPass().step(any()),
+                () => describeWarnings(given({ op: any(), alpha: any() })),
             ];
             try {
                 calls[n % calls.length]();

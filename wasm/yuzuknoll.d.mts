@@ -313,5 +313,5 @@ export interface Yuzuknoll {
  */
 export function load(source: BufferSource | WebAssembly.Module | Response | PromiseLike<BufferSource | WebAssembly.Module | Response>): Promise<Yuzuknoll>;
 
-/** Warnings in words, one by one, such as `stage 2: unsupported op`. */
+/** Warnings in words, one by one, such as `stage 2: unsupported op`. Throws a BadValue for what are no warnings. */
 export function describeWarnings(warnings: Warnings): string[];

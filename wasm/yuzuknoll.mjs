@@ -280,6 +280,7 @@ const MOST_RECORD_LENGTH = 1 + wideKey.size;
 
 // The bytes are made aside, and go to the module's memory when all of a call's are there.
 function encode(layout, value, path) {
+    if (value === undefined && layout !== nothing) throw new BadValue(path, "given");
     const bytes = new Uint8Array(layout.size);
     layout.put(bytes, 0, value, null, path);
     return bytes;
@@ -287,6 +288,8 @@ function encode(layout, value, path) {
 
 function encodeRecord(record) {
     if (typeof record !== "object" || record === null) throw new BadValue("record", "an object");
+    const unknown = Object.keys(record).find((field) => field !== "kind" && field !== "value");
+    if (unknown !== undefined) throw new BadValue(`record.${unknown}`, "one of the fields kind, value");
     const { kind, value } = record;
     if (!Number.isInteger(kind) || !Object.hasOwn(BODIES, kind)) throw new BadValue("record.kind", "one of Kind");
     return Uint8Array.of(kind, ...encode(BODIES[kind], value, "record.value"));
@@ -298,19 +301,24 @@ function decodeRecord(bytes, at) {
     return kind === Kind.EMIT ? { kind } : { kind, value: BODIES[kind].get(bytes, at + 1) };
 }
 
+// Not instanceof, since an array may come from another frame. This names the type of an array, and nothing else has one.
+const typeOfArray = Object.getOwnPropertyDescriptor(Object.getPrototypeOf(Uint8Array.prototype), Symbol.toStringTag).get;
+
 function checkBytes(value, path) {
-    // Not instanceof, since an array may come from another frame.
-    if (Object.prototype.toString.call(value) !== "[object Uint8Array]") throw new BadValue(path, "a Uint8Array");
+    if (typeOfArray.call(value) !== "Uint8Array") throw new BadValue(path, "a Uint8Array");
 }
 
 // ---- Warnings ----
+
+const warningMasks = struct({ op: byte(), selector: byte(), modifier: byte(), alpha: flag });
 
 /**
  * The warnings of an emission in words, one by one: those of a stage together, in rising order of the stages, and that of the alpha function last.
  * @param {import("./yuzuknoll.mjs").Warnings} warnings
  * @returns {string[]}
  */
-export function describeWarnings({ op, selector, modifier, alpha }) {
+export function describeWarnings(warnings) {
+    const [op, selector, modifier, alpha] = encode(warningMasks, warnings, "warnings");
     const causes = [
         [op, "unsupported op"],
         [selector, "unsupported argument"],
@@ -318,7 +326,7 @@ export function describeWarnings({ op, selector, modifier, alpha }) {
     ];
     const words = [];
     for (let i = 0; i < STAGES; i++) for (const [stages, what] of causes) if ((stages >> i) & 1) words.push(`stage ${i}: ${what}`);
-    if (alpha) words.push("unsupported alpha function");
+    if (alpha !== 0) words.push("unsupported alpha function");
     return words;
 }
 
@@ -326,7 +334,7 @@ export function describeWarnings({ op, selector, modifier, alpha }) {
 
 const FUNCTIONS = ["emit", "emit_wide", "read", "write", "apply", "entry_start", "entry_step", "entry_possible"].map((call) => `yuzuknoll_${call}`);
 
-// What a call is lent, by its length. Those with numbers in them come first, since these are aligned.
+// What a call is lent in the module's memory, and its length.
 const REPORT_LENGTH = 80;
 const STATE_LENGTH = 24;
 const LENT = Object.entries({
