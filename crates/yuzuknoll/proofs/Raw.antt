@@ -1,9 +1,9 @@
 -- What is read in the place of a key is emitted in its place.
 use Prim.Native.Nat.{ℕ}
-use mathlib.Core.Bool.{Bool, true, false, cond, or-false}
+use mathlib.Core.Bool.{Bool, true, false, cond}
 use mathlib.Core.Path.{_≡_, refl, sym, ap, _∙_}
 use mathlib.Core.List.{List}
-use lib.Seq.{drop-drop, getD-drop}
+use lib.Seq.{getD-drop}
 use Rattle.values.specs.Flags.{stageFlagsBad}
 use Rattle.values.specs.Kinds.{narrow}
 use Rattle.values.specs.declared.Key.{Key}
@@ -20,22 +20,29 @@ use Rattle.yuzuknoll.specs.Raw.{rawStages, rawKey, narrowInPlace, inPlac
 -- with the default for its arguments 0 it is the key that the bytes stand for
 narrow-raw : (b : List ℕ) → narrow (rawKey b) ≡ keyFromBody false b
 unfolding rawKey keyFromBody stagesFromBytes
-narrow-raw b = simp drop-drop
+narrow-raw b = simp getD-drop
 
 raw-flags : (b : List ℕ) → stageFlagsBad (rawKey b .stages) ≡ stageFlagsBad (keyFromBody false b .stages)
 unfolding rawKey keyFromBody stagesFromBytes stageFlagsBad
-raw-flags b = simp drop-drop
+raw-flags b = simp getD-drop
+
+raw-kind : (b : List ℕ) → rawKey b .wide ≡ false
+unfolding rawKey
+raw-kind b = refl
+
+raw-alike : (b : List ℕ) → anyOfThree (rawStages b) ≡ false → effectiveStages (rawKey b) ≡ rawKey b .stages
+unfolding rawKey
+raw-alike b h = effective-alike (rawKey b) refl h
 
 module _ (b : List ℕ) (v : Variant) (e : Entry) where
   raw-text : textOf (rawKey b) v e ≡ textOf (keyFromBody false b) v e
-  raw-text = sym (kind-one-text (rawKey b) refl v e) ∙ ap (λ (k : Key). textOf k v e) (narrow-raw b)
+  raw-text = sym (kind-one-text (rawKey b) (raw-kind b) v e) ∙ ap (λ (k : Key). textOf k v e) (narrow-raw b)
 
   raw-emitted : emittedOf (rawKey b) v e ≡ emittedOf (keyFromBody false b) v e
-  raw-emitted = sym (kind-one-emitted (rawKey b) refl v e) ∙ ap (λ (k : Key). emittedOf k v e) (narrow-raw b)
+  raw-emitted = sym (kind-one-emitted (rawKey b) (raw-kind b) v e) ∙ ap (λ (k : Key). emittedOf k v e) (narrow-raw b)
 
   plain : anyOfThree (rawStages b) ≡ false → InPlace (rawKey b) (keyFromBody false b) v e
-  unfolding rawKey
-  plain h = record { asItIs = effective-alike (rawKey b) refl h; sameFlags = raw-flags b; sameText = raw-text; sameEmitted = raw-emitted }
+  plain h = record { asItIs = raw-alike b h; sameFlags = raw-flags b; sameText = raw-text; sameEmitted = raw-emitted }
 
   taken : InPlace (effective (rawKey b)) (keyFromBody false b) v e
   taken =

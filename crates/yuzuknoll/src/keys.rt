@@ -83,13 +83,14 @@ fn any_of_three(body: &[u8]) -> bool
     requires { ⌜ bodyLength Kind.Key ≤ length (now body) ⌝ }
     ensures { λ r. ⌜ r ≡ anyOfThree (rawStages (now (body .entry))) ⌝ }
 {
-    let front = of_three(body, 0)
+    of_three(body, 0)
         | (of_three(body, STAGE_BYTES)
-            | (of_three(body, 2 * STAGE_BYTES) | of_three(body, 3 * STAGE_BYTES)));
-    let back = of_three(body, 4 * STAGE_BYTES)
-        | (of_three(body, 5 * STAGE_BYTES)
-            | (of_three(body, 6 * STAGE_BYTES) | of_three(body, 7 * STAGE_BYTES)));
-    front | back
+            | (of_three(body, 2 * STAGE_BYTES)
+                | (of_three(body, 3 * STAGE_BYTES)
+                    | (of_three(body, 4 * STAGE_BYTES)
+                        | (of_three(body, 5 * STAGE_BYTES)
+                            | (of_three(body, 6 * STAGE_BYTES)
+                                | of_three(body, 7 * STAGE_BYTES)))))))
 }
 
 pub(crate) fn narrow_in_place(body: &[u8]) -> Key

@@ -18,7 +18,8 @@ emit-values-requires c κs =
     let s = v .before .before in
     let r = s .before in
     let n = r .before in
-    bodies-admitted false _ _ _ (rw (← n .narrow-key-number .ensures) (sym (r .bodies-cause .ensures) ∙ s .if1 .left))
+    let key = n .before .before .before .before .before .args .key .now in
+    bodies-admitted false key _ _ (rw (← n .narrow-key-number .ensures) (sym (r .bodies-cause .ensures) ∙ s .if1 .left))
     (n .before .before .narrow-in-place .ensures) (v .variant-from-body .ensures) (e .entry-from-body .ensures)
 
 returns-2 : tie.Need-returns-2
@@ -29,7 +30,8 @@ returns-2 c =
     let s = v .before .before in
     let r = s .before in
     let n = r .before in
-    bodies-emitted false _ _ _ _ _ (rw (← n .narrow-key-number .ensures) (r .bodies-cause .ensures)) (s .if1 .left)
+    let key = n .before .before .before .before .before .args .key .now in
+    bodies-emitted false key _ _ _ _ (rw (← n .narrow-key-number .ensures) (r .bodies-cause .ensures)) (s .if1 .left)
     (n .before .before .narrow-in-place .ensures) (v .variant-from-body .ensures) (e .entry-from-body .ensures) (m .emit-values .ensures)
 
 pub yuzuknoll-emit-spec : {M : Type 1} → statement M

@@ -18,7 +18,8 @@ emit-values-requires c κs =
     let s = v .before .before in
     let r = s .before in
     let n = r .before in
-    bodies-admitted true _ _ _ (rw (← n .wide-key-number .ensures) (sym (r .bodies-cause .ensures) ∙ s .if1 .left))
+    let key = n .before .before .before .before .before .args .key .now in
+    bodies-admitted true key _ _ (rw (← n .wide-key-number .ensures) (sym (r .bodies-cause .ensures) ∙ s .if1 .left))
     (n .before .before .wide-key .ensures) (v .variant-from-body .ensures) (e .entry-from-body .ensures)
 
 returns-2 : tie.Need-returns-2
@@ -29,7 +30,8 @@ returns-2 c =
     let s = v .before .before in
     let r = s .before in
     let n = r .before in
-    bodies-emitted true _ _ _ _ _ (rw (← n .wide-key-number .ensures) (r .bodies-cause .ensures)) (s .if1 .left)
+    let key = n .before .before .before .before .before .args .key .now in
+    bodies-emitted true key _ _ _ _ (rw (← n .wide-key-number .ensures) (r .bodies-cause .ensures)) (s .if1 .left)
     (n .before .before .wide-key .ensures) (v .variant-from-body .ensures) (e .entry-from-body .ensures) (m .emit-values .ensures)
 
 pub yuzuknoll-emit-wide-spec : {M : Type 1} → statement M

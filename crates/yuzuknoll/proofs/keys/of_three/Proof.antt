@@ -4,7 +4,7 @@ use Rattle.yuzuknoll.proofs.keys.of_three.Statement.{statement}
 use Rattle.yuzuknoll.proofs.keys.of_three.Tie as tie
 
 returns : tie.Need-returns
-returns c = c .nope
+returns c = rw (c .before .before .three-operands .ensures, c .three-operands2 .ensures)
 
 pub of-three-spec : {M : Type 1} → statement M
 of-three-spec = tie.close (tie.spec (λ c. search needs) (λ c κs. tt) (λ c. search needs) (λ c. search needs) (λ c κs. tt) returns)
