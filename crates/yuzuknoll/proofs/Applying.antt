@@ -4,7 +4,7 @@ use mathlib.Core.Bool.{Bool, true, false, _&&_, cond}
 use mathlib.Core.Path.{_≡_, refl, sym, ap, _∙_}
 use mathlib.Core.List.{List, [], _∷_, _++_}
 use native.Mathlib.Omega.{arith}
-use borrow.Author.Tests.{eqb-true}
+use borrow.Author.Tests.{eqb-true, ne-eqb}
 use lib.Dec.{eqb}
 use denote.Enum.Declared.{tagOf}
 use types.Run.{OneOf, miss}
@@ -17,7 +17,7 @@ use Rattle.values.specs.declared.Key.{Key}
 use Rattle.values.specs.declared.Variant.{Variant}
 use Rattle.values.specs.declared.Entry.{Entry}
 use Rattle.values.specs.declared.Refusal.the-variants.{EmitTooEarly}
-use Rattle.wire.specs.Bodies.{kindByte, bodyLength, keyKind, recordLength, variantFromBody, entryFromBody}
+use Rattle.wire.specs.Bodies.{kindByte, bodyLength, keyKind, recordLength, keyFromBody, variantFromBody, entryFromBody}
 use Rattle.wire.specs.Reading.{bodyNumber, recordNumber}
 use Rattle.wire.specs.declared.Kind.{Kind}
 use Rattle.wire.specs.declared.Kind.the-variants as kind
@@ -29,12 +29,8 @@ use Rattle.yuzuknoll.specs.Applying.{placeOf, roomOf, heldLength, heldBy
 use Rattle.yuzuknoll.specs.Applying.{onEmit, partWith, heldWith, textWith, noResult, resultWith, appliedNumbers}
 use Rattle.yuzuknoll.proofs.Lent.{not-zero, left, first-refused, first-passed}
 use Rattle.yuzuknoll.proofs.Checking.{taken}
-use Rattle.emission.proofs.InPlace.{takes-place}
-use Rattle.cascade.specs.Effective.{effectiveStages}
 use Rattle.values.specs.Flags.{stageFlagsBad}
-use Rattle.yuzuknoll.specs.Raw.{inPlaceOf}
-use Rattle.yuzuknoll.proofs.Raw.{in-place}
-use Rattle.yuzuknoll.proofs.Emitting.{Emits, admitted, body-free, place-emits}
+use Rattle.yuzuknoll.proofs.Emitting.{Emits, admitted, body-free}
 
 -- eight numbers, one by one
 pub eight : (l : List ℕ) → length l ≡ 8
@@ -72,19 +68,26 @@ unfolding heldOf
 held-key-free held t =
     body-free (heldWide held) (heldBody kind.Key held) (held-free (keyKind (heldWide held)) (heldByte kind.Key held) (heldBody kind.Key held) t)
 
+-- the key that the part for it stands for, by its kind byte
+pub held-wide : (held : List ℕ) → getD held 0 0 ≡ 6 → heldOf held .key ≡ keyFromBody true (heldBody kind.Key held)
+unfolding heldOf
+held-wide held e = rw e
+
+pub held-narrow : (held : List ℕ) → (getD held 0 0 ≡ 6 → ⊥) → heldOf held .key ≡ keyFromBody false (heldBody kind.Key held)
+unfolding heldOf
+held-narrow held e = rw (ne-eqb _ _ e)
+
 -- values read from bytes that hold all three
-module _ (held : List ℕ) {k : Key} {v : Variant} {e : Entry} (p : k ≡ inPlaceOf (heldWide held) (heldBody kind.Key held))
-    (q : v ≡ variantFromBody (heldBody kind.Variant held)) (r : e ≡ entryFromBody (heldBody kind.Entry held)) where
-  pub held-admitted : holdsAll (heldOf held) ≡ true → (effectiveStages k ≡ k .stages) × Admitted k v e
-  unfolding heldOf
-  held-admitted t =
-      let s = both (heldOf held .«has_key») (heldOf held .«has_variant» && heldOf held .«has_entry») t in
-      let u = both (heldOf held .«has_variant») (heldOf held .«has_entry») (s .1) in
-      let free = held-key-free held (s .0) in
-      rw (q, r)
-      (takes-place (in-place (heldWide held) (heldBody kind.Key held) _ _) p (admitted (heldOf held .key) free (heldBody kind.Variant held) (heldBody kind.Entry held)
-      (held-free kind.Variant (heldByte kind.Variant held) (heldBody kind.Variant held) (u .0))
-      (held-free kind.Entry (heldByte kind.Entry held) (heldBody kind.Entry held) (u .1))))
+pub held-admitted : (held : List ℕ) {k : Key} {v : Variant} {e : Entry} → heldOf held .key ≡ k → v ≡ variantFromBody (heldBody kind.Variant held) → e ≡ entryFromBody (heldBody kind.Entry held)
+    → holdsAll (heldOf held) ≡ true → Admitted k v e
+unfolding heldOf
+held-admitted held w q r t =
+    let s = both (heldOf held .«has_key») (heldOf held .«has_variant» && heldOf held .«has_entry») t in
+    let u = both (heldOf held .«has_variant») (heldOf held .«has_entry») (s .1) in
+    rw (sym w, q, r)
+    (admitted (heldOf held .key) (held-key-free held (s .0)) (heldBody kind.Variant held) (heldBody kind.Entry held)
+    (held-free kind.Variant (heldByte kind.Variant held) (heldBody kind.Variant held) (u .0))
+    (held-free kind.Entry (heldByte kind.Entry held) (heldBody kind.Entry held) (u .1)))
 
 -- Emission from held bytes: its number, the text and the result that it leaves.
 module _ (held out res : List ℕ) where
@@ -101,13 +104,10 @@ module _ (held out res : List ℕ) where
         let h : n ≡ 0 → ⊥ = λ z. not-zero EmitTooEarly (sym q ∙ z) in
         (rw (sym e ∙ f) q, (left _ out h, (left _ res h, λ z. absurd (h z))))
 
-    pub held-emitted : {n : ℕ} {out′ res′ : List ℕ} {k : Key} {v : Variant} {x : Entry} → all ≡ true → k ≡ inPlaceOf (heldWide held) (heldBody kind.Key held) →
-        v ≡ variantFromBody (heldBody kind.Variant held) → x ≡ entryFromBody (heldBody kind.Entry held) → Emits k v x out res n out′ res′ →
-        HeldEmits n out′ res′
+    pub held-emitted : {n : ℕ} {out′ res′ : List ℕ} {k : Key} {v : Variant} {x : Entry} → all ≡ true → heldOf held .key ≡ k → v ≡ variantFromBody (heldBody kind.Variant held)
+        → x ≡ entryFromBody (heldBody kind.Entry held) → Emits k v x out res n out′ res′ → HeldEmits n out′ res′
     unfolding heldOf emitNumber textWith resultWith
-    held-emitted t p q r s =
-        let y = place-emits (in-place (heldWide held) (heldBody kind.Key held) _ _) out res (rw (p, q, r) at s) in
-        (rw (sym e ∙ t) (y .0), y .1)
+    held-emitted t w q r s = let y = rw (sym w, q, r) at s in (rw (sym e ∙ t) (y .0), y .1)
 
 -- a record laid over its part
 pub laid : (k : Kind) (held b : List ℕ) {n at at′ : ℕ} {held′ : List ℕ} → n ≡ recordLength k → at ≡ placeOf k → placeOf k + recordLength k ≤ length held →

@@ -21,15 +21,12 @@ use Rattle.values.specs.declared.Answer.{Answer}
 use Rattle.values.specs.declared.Answer.the-variants.{Text, Refused}
 use Rattle.shader.specs.Results.{emittedOf, textOf, answerOf, answerNumber, emissionNumber, bufferAfter}
 use Rattle.shader.specs.Demand.{Demanded}
-use Rattle.emission.proofs.InPlace.{InPlace, takes-place, place-number, place-demand}
-use Rattle.cascade.specs.Effective.{effectiveStages}
+use Rattle.emission.proofs.InPlace.{InPlace, place-number, place-demand}
 use Rattle.wire.specs.Bodies.{keyKind, specularByte, keyFromBody, variantFromBody, entryFromBody}
 use Rattle.wire.specs.Reading.{bodyNumber}
 use Rattle.wire.specs.declared.Kind.the-variants as kind
-use Rattle.yuzuknoll.specs.Raw.{inPlaceOf}
 use Rattle.yuzuknoll.specs.Lent.{after, firstOf, atFront, resultNumbers, ReportedDemands}
 use Rattle.yuzuknoll.specs.Emitting.{bodiesNumber, bodiesText, bodiesResult}
-use Rattle.yuzuknoll.proofs.Raw.{in-place}
 use Rattle.yuzuknoll.proofs.Lent.{not-zero, left, first-refused, first-passed, first-zero}
 
 -- yes as 1 and no as 0 tells which it was
@@ -80,11 +77,14 @@ module _ (k : Key) (v : Variant) (e : Entry) (out res : List ℕ) where
 
 -- A key in the place of another is emitted as that one is.
 module _ {r k : Key} {v : Variant} {e : Entry} (p : InPlace r k v e) where
-  pub place-emits : (out res : List ℕ) {n : ℕ} {out′ res′ : List ℕ} → Emits r v e out res n out′ res′ → Emits k v e out res n out′ res′
+  place-emits : (out res : List ℕ) {n : ℕ} {out′ res′ : List ℕ} → Emits r v e out res n out′ res′ → Emits k v e out res n out′ res′
   place-emits out res {n} s =
       let texts = ap (λ (t : List ℕ). after n (atFront t out) out) (p .sameText) in
       let results = ap (λ (m : Emitted). after n (resultNumbers m) res) (p .sameEmitted) in
       (s .0 ∙ place-number p (length out), (s .1 .0 ∙ texts, (s .1 .1 .0 ∙ results, λ z. place-demand p (s .1 .1 .1 z))))
+
+  pub placed-emits : (out res : List ℕ) {key : Key} {n : ℕ} {out′ res′ : List ℕ} → key ≡ r → Emits key v e out res n out′ res′ → Emits k v e out res n out′ res′
+  placed-emits out res f s = place-emits out res (rw f at s)
 
 -- What the numbers of bodies tell of their values.
 
@@ -173,15 +173,14 @@ module _ (wide : Bool) (k v e : List ℕ) where
   abbrev otherCause : ℕ
   otherCause = firstOf (bodyNumber kind.Variant v) (bodyNumber kind.Entry e)
 
-  abbrev cause : ℕ
+  abbrev pub cause : ℕ
   cause = firstOf keyCause otherCause
 
-  pub bodies-admitted : {key′ : Key} {variant′ : Variant} {entry′ : Entry} → cause ≡ 0 → key′ ≡ inPlaceOf wide k → variant′ ≡ variant → entry′ ≡ entry
-      → (effectiveStages key′ ≡ key′ .stages) × Admitted key′ variant′ entry′
-  bodies-admitted z f g h =
+  pub bodies-admitted : {variant′ : Variant} {entry′ : Entry} → cause ≡ 0 → variant′ ≡ variant → entry′ ≡ entry → Admitted key variant′ entry′
+  bodies-admitted z g h =
       let t = first-zero keyCause otherCause z in
       let u = first-zero (bodyNumber kind.Variant v) (bodyNumber kind.Entry e) (t .1) in
-      rw (g, h) (takes-place (in-place wide k variant entry) f (admitted key (body-free wide k (t .0)) v e (u .0) (u .1)))
+      rw (g, h) (admitted key (body-free wide k (t .0)) v e (u .0) (u .1))
 
   number : (room : ℕ) → bodiesNumber wide k v e room ≡ firstOf cause (cond (ltb room (length (textOf key variant entry))) 8 0)
   unfolding bodyNumber emissionNumber
@@ -202,9 +201,7 @@ module _ (wide : Bool) (k v e : List ℕ) where
       bodies-refused h = (first-refused _ p h ∙ sym (number (length out)), (left _ out h, (left _ res h, λ z. absurd (h z))))
 
       -- where the bodies have no cause, emission answers what they answer
-      pub bodies-emitted : {n : ℕ} {out′ res′ : List ℕ} {key′ : Key} {variant′ : Variant} {entry′ : Entry} → a ≡ 0
-          → key′ ≡ inPlaceOf wide k → variant′ ≡ variant → entry′ ≡ entry
-          → Emits key′ variant′ entry′ out res n out′ res′ → Answered n out′ res′
-      bodies-emitted z f g h s =
-          let t = place-emits (in-place wide k variant entry) out res (rw (f, g, h) at s) in
-          (first-passed {n = keyCause} refl (first-zero keyCause otherCause (sym p ∙ z) .0) (t .0), t .1)
+      pub bodies-emitted : {n : ℕ} {out′ res′ : List ℕ} {variant′ : Variant} {entry′ : Entry} → a ≡ 0 → variant′ ≡ variant → entry′ ≡ entry
+          → Emits key variant′ entry′ out res n out′ res′ → Answered n out′ res′
+      bodies-emitted z g h s =
+          let t = rw (g, h) at s in (first-passed {n = keyCause} refl (first-zero keyCause otherCause (sym p ∙ z) .0) (t .0), t .1)

@@ -1,21 +1,29 @@
--- What is read in the place of a key is emitted in its place.
-use Prim.Native.Nat.{ℕ}
-use mathlib.Core.Bool.{Bool, true, false, cond}
+-- A key of kind 1 read as its bytes lie, without an op of three operands, is emitted in the place of the key that they stand for; and one of kind 6 as it is.
+use Prim.Native.Nat.{ℕ, zero, suc, _+_, _<_}
+use mathlib.Core.Bool.{Bool, true, false, _||_, or-false, true≢false}
 use mathlib.Core.Path.{_≡_, refl, sym, ap, _∙_}
-use mathlib.Core.List.{List}
-use lib.Seq.{getD-drop}
+use mathlib.Core.List.{List, [], _∷_, _++_}
+use native.Mathlib.Omega.{arith}
+use native.Mathlib.Numerals.{add-one}
+use lib.ListN.{length, take, getD}
+use lib.Seq.{getD-drop, getD-take, take-suc}
+use Rattle.combiners.specs.Combiners.{threeOperands}
 use Rattle.values.specs.Flags.{stageFlagsBad}
 use Rattle.values.specs.Kinds.{narrow}
 use Rattle.values.specs.declared.Key.{Key}
 use Rattle.values.specs.declared.Variant.{Variant}
 use Rattle.values.specs.declared.Entry.{Entry}
-use Rattle.cascade.specs.Effective.{effectiveStages, anyOfThree, effective}
+use Rattle.cascade.specs.Effective.{effectiveStages, anyOfThree}
 use Rattle.cascade.proofs.Narrowing.{effective-alike}
 use Rattle.shader.specs.Results.{textOf, emittedOf}
 use Rattle.shader.proofs.Narrow.{kind-one-text, kind-one-emitted}
-use Rattle.emission.proofs.InPlace.{InPlace, effective-in-place}
+use Rattle.emission.proofs.InPlace.{InPlace}
 use Rattle.wire.specs.Bodies.{stagesFromBytes, keyFromBody}
-use Rattle.yuzuknoll.specs.Raw.{rawStages, rawKey, narrowInPlace, inPlaceOf}
+use Rattle.yuzuknoll.specs.Raw.{rawStages, rawKey, anyByteOfThree}
+
+neither-of : (a b : Bool) → (a || b) ≡ false → (a ≡ false) × (b ≡ false)
+neither-of true b e = absurd (true≢false e)
+neither-of false b e = (refl, e)
 
 -- with the default for its arguments 0 it is the key that the bytes stand for
 narrow-raw : (b : List ℕ) → narrow (rawKey b) ≡ keyFromBody false b
@@ -25,6 +33,53 @@ narrow-raw b = simp getD-drop
 raw-flags : (b : List ℕ) → stageFlagsBad (rawKey b .stages) ≡ stageFlagsBad (keyFromBody false b .stages)
 unfolding rawKey keyFromBody stagesFromBytes stageFlagsBad
 raw-flags b = simp getD-drop
+
+-- one byte more
+any-behind : (l : List ℕ) (x : ℕ) → anyByteOfThree (l ++ (x ∷ [])) ≡ anyByteOfThree l || threeOperands x
+unfolding anyByteOfThree
+any-behind [] x = or-false (threeOperands x)
+any-behind (y ∷ l) x = rw (any-behind l x) (sym (or-assoc (threeOperands y) (anyByteOfThree l) (threeOperands x)))
+  where
+    or-assoc : (a b c : Bool) → ((a || b) || c) ≡ (a || (b || c))
+    or-assoc true b c = refl
+    or-assoc false b c = refl
+
+pub byte-asked : (l : List ℕ) (i : ℕ) {found here : Bool} → i < length l → found ≡ anyByteOfThree (take i l) → here ≡ threeOperands (getD l i 0)
+    → (found || here) ≡ anyByteOfThree (take (i + 1) l)
+byte-asked l i h f t = rw (f, t, add-one, take-suc l i 0 h) (sym (any-behind (take i l) (getD l i 0)))
+
+-- where no byte is one of an op of three operands, no op is
+none : (l : List ℕ) → anyByteOfThree l ≡ false → (i : ℕ) → threeOperands (getD l i 0) ≡ false
+unfolding anyByteOfThree
+none [] h i = refl
+none (x ∷ r) h zero = neither-of (threeOperands x) _ h .0
+none (x ∷ r) h (suc i) = none r (neither-of (threeOperands x) _ h .1) i
+
+no-op-of-three : (b : List ℕ) → anyByteOfThree (take 56 b) ≡ false → anyOfThree (rawStages b) ≡ false
+unfolding anyOfThree
+no-op-of-three b h =
+    let at : (i : ℕ) → i < 56 → threeOperands (getD b i 0) ≡ false = λ i l. ap threeOperands (sym (getD-take 56 b i 0 l)) ∙ none (take 56 b) h i in
+    simp (
+      getD-drop,
+      at 0 (omega arith),
+      at 3 (omega arith),
+      at 7 (omega arith),
+      at 10 (omega arith),
+      at 14 (omega arith),
+      at 17 (omega arith),
+      at 21 (omega
+          arith),
+      at 24 (omega arith),
+      at 28 (omega arith),
+      at 31 (omega arith),
+      at 35 (omega arith),
+      at 38 (omega arith),
+      at 42 (omega arith),
+      at 45
+          (omega arith),
+      at 49 (omega arith),
+      at 52 (omega arith),
+    )
 
 raw-kind : (b : List ℕ) → rawKey b .wide ≡ false
 unfolding rawKey
@@ -41,31 +96,9 @@ module _ (b : List ℕ) (v : Variant) (e : Entry) where
   raw-emitted : emittedOf (rawKey b) v e ≡ emittedOf (keyFromBody false b) v e
   raw-emitted = sym (kind-one-emitted (rawKey b) (raw-kind b) v e) ∙ ap (λ (k : Key). emittedOf k v e) (narrow-raw b)
 
-  plain : anyOfThree (rawStages b) ≡ false → InPlace (rawKey b) (keyFromBody false b) v e
-  plain h = record { asItIs = raw-alike b h; sameFlags = raw-flags b; sameText = raw-text; sameEmitted = raw-emitted }
+  pub raw-in-place : anyByteOfThree (take 56 b) ≡ false → InPlace (rawKey b) (keyFromBody false b) v e
+  raw-in-place h = record { asItIs = raw-alike b (no-op-of-three b h); sameFlags = raw-flags b; sameText = raw-text; sameEmitted = raw-emitted }
 
-  taken : InPlace (effective (rawKey b)) (keyFromBody false b) v e
-  taken =
-      let p = effective-in-place (rawKey b) v e in
-      record {
-        asItIs = p .asItIs;
-        sameFlags = p .sameFlags ∙ raw-flags b;
-        sameText = p .sameText ∙ raw-text;
-        sameEmitted = p .sameEmitted ∙ raw-emitted;
-      }
-
-  narrow-in-place : InPlace (narrowInPlace b) (keyFromBody false b) v e
-  narrow-in-place = go (anyOfThree (rawStages b)) refl
-    where
-      go : (t : Bool) → anyOfThree (rawStages b) ≡ t → InPlace (cond t (effective (rawKey b)) (rawKey b)) (keyFromBody false b) v e
-      go true h = taken
-      go false h = plain h
-
-  -- a key of kind 6 takes effect as it is
-  wide-in-place : InPlace (keyFromBody true b) (keyFromBody true b) v e
+  pub wide-in-place : InPlace (keyFromBody true b) (keyFromBody true b) v e
   unfolding effectiveStages keyFromBody
   wide-in-place = record { asItIs = refl; sameFlags = refl; sameText = refl; sameEmitted = refl }
-
-pub in-place : (wide : Bool) (b : List ℕ) (v : Variant) (e : Entry) → InPlace (inPlaceOf wide b) (keyFromBody wide b) v e
-in-place true b v e = wide-in-place b v e
-in-place false b v e = narrow-in-place b v e

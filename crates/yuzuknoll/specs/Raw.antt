@@ -1,12 +1,12 @@
--- What is emitted in the place of a key. One of kind 6 is emitted as it is. One of kind 1 is read as its bytes lie: an argument 0, which no op of such a
--- key has, is then the byte behind its combiner's three, so that four bytes are read at once. Only inner contracts cite it.
+-- A key of kind 1 as its bytes lie. An argument 0, which no op of such a key has, is the byte behind its combiner's three, so that four bytes are read at
+-- once. Only inner contracts cite it.
 use Prim.Native.Nat.{ℕ}
-use mathlib.Core.Bool.{Bool, true, false, cond}
+use mathlib.Core.Bool.{Bool, false, _||_}
 use mathlib.Core.List.{List, [], _∷_}
 use lib.Dec.{eqb}
 use lib.ListN.{drop, getD}
-use Rattle.cascade.specs.Effective.{anyOfThree, effective}
-use Rattle.wire.specs.Bodies.{keyFromBody, specularByte}
+use Rattle.combiners.specs.Combiners.{threeOperands}
+use Rattle.wire.specs.Bodies.{specularByte}
 use Rattle.values.specs.declared.Stage.{Stage}
 use Rattle.values.specs.declared.Key.{Key}
 
@@ -33,9 +33,7 @@ rawStages b =
 unfoldable pub rawKey : List ℕ → Key
 rawKey b = record { stages = rawStages b; «specular_add» = eqb (specularByte false b) 1; projected = getD b 57 0; wide = false }
 
--- a key of kind 1 that has ops of three operands, as few have, is taken as it takes effect
-abbrev pub narrowInPlace : List ℕ → Key
-narrowInPlace b = cond (anyOfThree (rawStages b)) (effective (rawKey b)) (rawKey b)
-
-abbrev pub inPlaceOf : Bool → List ℕ → Key
-inPlaceOf wide b = cond wide (keyFromBody true b) (narrowInPlace b)
+-- some of these bytes is one that an op of three operands has
+unfoldable pub anyByteOfThree : List ℕ → Bool
+anyByteOfThree [] = false
+anyByteOfThree (x ∷ r) = threeOperands x || anyByteOfThree r

@@ -3,8 +3,10 @@ use crate::ACCEPTED;
 use crate::check::kind_number;
 use crate::check::record_number;
 use crate::emit::RESULT_LENGTH;
+use crate::emit::emit_rewritten;
 use crate::emit::emit_values;
-use crate::keys::narrow_in_place;
+use crate::keys::any_byte_of_three;
+use crate::keys::raw_key;
 use crate::read::kind_in;
 use crate::refuse;
 use states::defaults;
@@ -31,10 +33,9 @@ ghost use lib.ListN.{drop, length, take};
 ghost use lib.Seq.{sets};
 ghost use Rattle.records.specs.Applying.{appliedNumber, emitNumber, holdsAll, keyOrDefaults};
 ghost use Rattle.wire.specs.Bodies.{bodyLength, recordLength};
-ghost use Rattle.yuzuknoll.specs.Raw.{inPlaceOf};
 ghost use Rattle.yuzuknoll.specs.Lent.{ReportedDemands, after, recordNumbers};
 ghost use Rattle.yuzuknoll.specs.Records.{kindIn};
-ghost use Rattle.yuzuknoll.specs.Applying.{appliedNumbers, heldBody, heldLength, heldOf, heldWide, heldWith, isRecord, noResult, placeOf, resultWith, textWith};
+ghost use Rattle.yuzuknoll.specs.Applying.{appliedNumbers, heldLength, heldOf, heldWith, isRecord, noResult, placeOf, resultWith, textWith};
 
 // The held bytes: the records of a key, of either kind, a variant and an entry, each a kind byte and a body.
 const KEY_ROOM: usize = 75;
@@ -105,17 +106,6 @@ fn held_key(held: &[u8]) -> Key
     narrow_key(&held[KEY_BODY..VARIANT_PLACE])
 }
 
-// The key that is emitted in its place.
-fn held_in_place(held: &[u8]) -> Key
-    requires { ⌜ length (now held) ≡ heldLength ⌝ }
-    ensures { λ r. ⌜ r ≡ inPlaceOf (heldWide (now (held .entry))) (heldBody Kind.Key (now (held .entry))) ⌝ }
-{
-    if held[KEY_PLACE] == KIND_WIDE_KEY {
-        return wide_key(&held[KEY_BODY..VARIANT_PLACE]);
-    }
-    narrow_in_place(&held[KEY_BODY..VARIANT_PLACE])
-}
-
 fn holds_all(held: &[u8]) -> bool
     requires { ⌜ length (now held) ≡ heldLength ⌝ }
     ensures { λ r. ⌜ r ≡ holdsAll (heldOf (now (held .entry))) ⌝ }
@@ -145,9 +135,16 @@ fn emit_held(held: &[u8], text: &mut [u8], result: &mut [u64; RESULT_LENGTH]) ->
     if !holds_all(held) {
         return refuse(Refusal::EmitTooEarly);
     }
-    let key = held_in_place(held);
     let variant = variant_from_body(&held[VARIANT_BODY..ENTRY_PLACE]);
     let entry = entry_from_body(&held[ENTRY_BODY..HELD_LENGTH]);
+    if held[KEY_PLACE] == KIND_WIDE_KEY {
+        let key = wide_key(&held[KEY_BODY..VARIANT_PLACE]);
+        return emit_values(key, variant, entry, text, result);
+    }
+    if any_byte_of_three(&held[KEY_BODY..VARIANT_PLACE]) {
+        return emit_rewritten(&held[KEY_BODY..VARIANT_PLACE], variant, entry, text, result);
+    }
+    let key = raw_key(&held[KEY_BODY..VARIANT_PLACE]);
     emit_values(key, variant, entry, text, result)
 }
 

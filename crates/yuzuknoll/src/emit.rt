@@ -4,8 +4,10 @@ use crate::check::entry_number;
 use crate::check::narrow_key_number;
 use crate::check::variant_number;
 use crate::check::wide_key_number;
-use crate::keys::narrow_in_place;
+use crate::keys::any_byte_of_three;
+use crate::keys::raw_key;
 use crate::refuse;
+use cascade::effective::effective;
 use emission::Answer;
 use emission::Emitted;
 use emission::emit_checked;
@@ -14,15 +16,17 @@ use values::Key;
 use values::Variant;
 use wire::Kind;
 use wire::reader::entry_from_body;
+use wire::reader::narrow_key;
 use wire::reader::variant_from_body;
 use wire::reader::wide_key;
+ghost use Prim.Native.Nat.{_≤_};
 ghost use mathlib.Core.Path.{_≡_};
 ghost use mathlib.Core.Bool.{false, true};
 ghost use lib.ListN.{length};
 ghost use Rattle.values.specs.Admitted.{Admitted};
 ghost use Rattle.cascade.specs.Effective.{effectiveStages};
 ghost use Rattle.shader.specs.Results.{emissionNumber, emittedOf, textOf};
-ghost use Rattle.wire.specs.Bodies.{keyFromBody};
+ghost use Rattle.wire.specs.Bodies.{bodyLength, keyFromBody};
 ghost use Rattle.wire.specs.Reading.{bodyNumber};
 ghost use Rattle.yuzuknoll.specs.Lent.{ReportedDemands, after, atFront, firstOf, resultNumbers};
 ghost use Rattle.yuzuknoll.specs.Emitting.{bodiesNumber, bodiesResult, bodiesText};
@@ -77,6 +81,25 @@ pub(crate) fn emit_values(
     }
 }
 
+// From the body of a key of kind 1 that may have ops of three operands. It is a function of its own because few keys have, and what the others need is
+// quicker without it.
+pub(crate) fn emit_rewritten(
+    body: &[u8],
+    variant: Variant,
+    entry: Entry,
+    text: &mut [u8],
+    result: &mut [u64; RESULT_LENGTH],
+) -> u64
+    requires { ⌜ (bodyLength Kind.Key ≤ length (now body)) × Admitted (keyFromBody false (now body)) variant entry ⌝ }
+    ensures number { λ r. ⌜ r ≡ emissionNumber (keyFromBody false (now (body .entry))) variant entry (length (now (text .entry))) ⌝ }
+    ensures text { λ r. ⌜ now (text .exit) ≡ after r (atFront (textOf (keyFromBody false (now (body .entry))) variant entry) (now (text .entry))) (now (text .entry)) ⌝ }
+    ensures result { λ r. ⌜ now (result .exit) ≡ after r (resultNumbers (emittedOf (keyFromBody false (now (body .entry))) variant entry)) (now (result .entry)) ⌝ }
+    ensures names { λ r. ⌜ (r ≡ 0 → ReportedDemands (keyFromBody false (now (body .entry))) (now (text .exit)) (now (result .exit))) ⌝ }
+{
+    let key = effective(narrow_key(body));
+    emit_values(key, variant, entry, text, result)
+}
+
 // The first cause of three bodies: the key's, as its number has it, then the variant's and the entry's.
 fn bodies_cause(key_refused: u64, variant: &[u8; VARIANT_LENGTH], entry: &[u8; ENTRY_LENGTH]) -> u64
     ensures { λ r. ⌜ r ≡ firstOf «key_refused» (firstOf (bodyNumber Kind.Variant (now (variant .entry))) (bodyNumber Kind.Entry (now (entry .entry)))) ⌝ }
@@ -106,13 +129,16 @@ pub extern "C" fn yuzuknoll_emit(
     ensures result { λ r. ⌜ now (result .exit) ≡ after r (bodiesResult false (now (key .entry)) (now (variant .entry)) (now (entry .entry))) (now (result .entry)) ⌝ }
     ensures names { λ r. ⌜ (r ≡ 0 → ReportedDemands (keyFromBody false (now (key .entry))) (now (text .exit)) (now (result .exit))) ⌝ }
 {
-    let k = narrow_in_place(key);
+    let k = raw_key(key);
     let refused = bodies_cause(narrow_key_number(key), variant, entry);
     if refused != ACCEPTED {
         return refused;
     }
     let v = variant_from_body(variant);
     let e = entry_from_body(entry);
+    if any_byte_of_three(key) {
+        return emit_rewritten(key, v, e, text, result);
+    }
     emit_values(k, v, e, text, result)
 }
 

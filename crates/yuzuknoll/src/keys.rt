@@ -1,5 +1,4 @@
-//! The key that is emitted in the place of one of kind 1, read as its bytes lie.
-use cascade::effective::effective;
+//! A key of kind 1 as its bytes lie.
 use combiners::ops::three_operands;
 use values::Combiner;
 use values::Key;
@@ -7,16 +6,14 @@ use values::Stage;
 use wire::Kind;
 ghost use Prim.Native.Nat.{_+_, _≤_};
 ghost use mathlib.Core.Path.{_≡_};
-ghost use mathlib.Core.Bool.{_||_};
-ghost use lib.ListN.{drop, getD, length};
-ghost use Rattle.combiners.specs.Combiners.{threeOperands};
-ghost use Rattle.cascade.specs.Effective.{anyOfThree};
+ghost use lib.ListN.{drop, length, take};
 ghost use Rattle.wire.specs.Bodies.{bodyLength};
-ghost use Rattle.yuzuknoll.specs.Raw.{narrowInPlace, rawKey, rawStage, rawStages};
+ghost use Rattle.yuzuknoll.specs.Raw.{anyByteOfThree, rawKey, rawStage, rawStages};
 
 const STAGE_BYTES: usize = 7;
 
-const SPECULAR_AT: usize = 8 * STAGE_BYTES;
+// Where the stages end, and specular add stands.
+const SPECULAR_AT: usize = 56;
 
 // The stage whose seven bytes begin at a place.
 fn raw_stage(body: &[u8], at: usize) -> Stage
@@ -57,7 +54,7 @@ fn raw_stages(body: &[u8]) -> [Stage; 8]
     [a, b, c, d, e, f, g, h]
 }
 
-fn raw_key(body: &[u8]) -> Key
+pub(crate) fn raw_key(body: &[u8]) -> Key
     requires { ⌜ bodyLength Kind.Key ≤ length (now body) ⌝ }
     ensures { λ r. ⌜ r ≡ rawKey (now (body .entry)) ⌝ }
 {
@@ -70,35 +67,17 @@ fn raw_key(body: &[u8]) -> Key
     }
 }
 
-// An op of the stage at a place has three operands.
-fn of_three(body: &[u8], at: usize) -> bool
-    requires { ⌜ at + 7 ≤ length (now body) ⌝ }
-    ensures { λ r. ⌜ r ≡ threeOperands (getD (now (body .entry)) at 0) || threeOperands (getD (now (body .entry)) (at + 3) 0) ⌝ }
-{
-    three_operands(body[at]) | three_operands(body[at + 3])
-}
-
-// Some op has: few keys of kind 1 do.
-fn any_of_three(body: &[u8]) -> bool
+// Some byte of the stages is one that an op of three operands has. Few keys of kind 1 have one. All bytes are asked, which takes fewer steps than to
+// pick the ops.
+pub(crate) fn any_byte_of_three(body: &[u8]) -> bool
     requires { ⌜ bodyLength Kind.Key ≤ length (now body) ⌝ }
-    ensures { λ r. ⌜ r ≡ anyOfThree (rawStages (now (body .entry))) ⌝ }
+    ensures { λ r. ⌜ r ≡ anyByteOfThree (take 56 (now (body .entry))) ⌝ }
 {
-    of_three(body, 0)
-        | (of_three(body, STAGE_BYTES)
-            | (of_three(body, 2 * STAGE_BYTES)
-                | (of_three(body, 3 * STAGE_BYTES)
-                    | (of_three(body, 4 * STAGE_BYTES)
-                        | (of_three(body, 5 * STAGE_BYTES)
-                            | (of_three(body, 6 * STAGE_BYTES)
-                                | of_three(body, 7 * STAGE_BYTES)))))))
-}
-
-pub(crate) fn narrow_in_place(body: &[u8]) -> Key
-    requires { ⌜ bodyLength Kind.Key ≤ length (now body) ⌝ }
-    ensures { λ r. ⌜ r ≡ narrowInPlace (now (body .entry)) ⌝ }
-{
-    if any_of_three(body) {
-        return effective(raw_key(body));
+    let mut found = false;
+    let mut i = 0;
+    while i < SPECULAR_AT {
+        found = found | three_operands(body[i]);
+        i += 1;
     }
-    raw_key(body)
+    found
 }

@@ -2,7 +2,9 @@
 use mathlib.Core.Bool.{true}
 use mathlib.Core.Path.{sym, _∙_}
 use borrow.Author.Needs.{needs}
-use Rattle.yuzuknoll.proofs.Emitting.{bodies-admitted, bodies-refused, bodies-emitted}
+use Rattle.emission.proofs.InPlace.{takes-place}
+use Rattle.yuzuknoll.proofs.Raw.{wide-in-place}
+use Rattle.yuzuknoll.proofs.Emitting.{placed-emits, bodies-admitted, bodies-refused, bodies-emitted}
 use Rattle.yuzuknoll.proofs.emit.yuzuknoll_emit_wide.Statement.{statement}
 use Rattle.yuzuknoll.proofs.emit.yuzuknoll_emit_wide.Tie as tie
 
@@ -19,8 +21,9 @@ emit-values-requires c κs =
     let r = s .before in
     let n = r .before in
     let key = n .before .before .before .before .before .args .key .now in
-    bodies-admitted true key _ _ (rw (← n .wide-key-number .ensures) (sym (r .bodies-cause .ensures) ∙ s .if1 .left))
-    (n .before .before .wide-key .ensures) (v .variant-from-body .ensures) (e .entry-from-body .ensures)
+    takes-place (wide-in-place key _ _) (n .before .before .wide-key .ensures)
+    (bodies-admitted true key _ _ (rw (← n .wide-key-number .ensures) (sym (r .bodies-cause .ensures) ∙ s .if1 .left)) (v .variant-from-body .ensures)
+    (e .entry-from-body .ensures))
 
 returns-2 : tie.Need-returns-2
 returns-2 c =
@@ -31,8 +34,8 @@ returns-2 c =
     let r = s .before in
     let n = r .before in
     let key = n .before .before .before .before .before .args .key .now in
-    bodies-emitted true key _ _ _ _ (rw (← n .wide-key-number .ensures) (r .bodies-cause .ensures)) (s .if1 .left)
-    (n .before .before .wide-key .ensures) (v .variant-from-body .ensures) (e .entry-from-body .ensures) (m .emit-values .ensures)
+    bodies-emitted true key _ _ _ _ (rw (← n .wide-key-number .ensures) (r .bodies-cause .ensures)) (s .if1 .left) (v .variant-from-body .ensures)
+    (e .entry-from-body .ensures) (placed-emits (wide-in-place key _ _) _ _ (n .before .before .wide-key .ensures) (m .emit-values .ensures))
 
 pub yuzuknoll-emit-wide-spec : {M : Type 1} → statement M
 yuzuknoll-emit-wide-spec =
