@@ -1,0 +1,5 @@
+mod Sums
+mod Lines
+mod Lookups
+mod Stages
+pub mod Longest
