@@ -226,7 +226,7 @@ module _ (k : Key) (v : Variant) (e : Entry) (typed : Typed k v) where
   any-le false h = narrow-le h
 
 -- the name of a permitted entry has as many bytes as its length says, one at least
-name-length : (e : Entry) → Permitted e → length (nameOf e) ≡ e .len
+pub name-length : (e : Entry) → Permitted e → length (nameOf e) ≡ e .len
 unfolding entryGood
 name-length e p = simp length-take (omega (arith, p .bytes, leb→le (e .len) 32 (and-fst (leb (e .len) 32) _ (p .good))))
 
