@@ -1,5 +1,6 @@
--- Sums of lengths that depend on tests; then the parts of a text: a stage's line, its lookup and its parameters; the stages together.
+-- Sums of lengths that depend on tests; then the parts of a text: an expression, a stage's line, its lookup and its parameters; the stages together.
 mod Sums
+mod Expressions
 mod Lines
 mod Lookups
 mod Stages

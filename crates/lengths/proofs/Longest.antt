@@ -1,7 +1,7 @@
 -- No text is longer than its kind's greatest length, and an entry of n bytes adds n - 1 to the text with an entry of one byte.
 use Prim.Native.Nat.{ℕ, suc, _+_, _-_, _*_, _≤_, _<_, max}
 use mathlib.Core.Bool.{Bool, true, false, cond}
-use mathlib.Core.Path.{_≡_, refl, sym, subst, ap, _∙_}
+use mathlib.Core.Path.{_≡_, refl, subst, ap}
 use mathlib.Core.List.{List, [], _∷_, map}
 use native.Mathlib.Omega.{arith}
 use native.Mathlib.Nat.{le-trans}
@@ -17,8 +17,8 @@ use Rattle.cascade.specs.Effective.{narrowOp, narrowStage, effectiveStages, act
 use Rattle.cascade.specs.Reading.{live, readsBumpEnv}
 use Rattle.cascade.proofs.Narrowing.{effective-length}
 use Rattle.shader.specs.Output.{sampleMask, pointSprite, lodBias, fogged, tested, srgbWrite, specularText, fogDepthText, fogFactorText, fogText, comparisonText, testText, srgbText, returnText, outputText}
-use Rattle.shader.specs.Whole.{varyingsText, srgbHelperText, fragmentText, frontText, stageInText, samplersText, parametersText, spriteLine, spriteText, localsText, stagesText, bodyText, wholeText}
-use Rattle.shader.specs.Results.{textOf, answerOf}
+use Rattle.shader.specs.Whole.{varyingsText, srgbHelperText, fragmentText, frontText, stageInText, samplersText, parametersText, spriteLine, spriteText, localsText, bodyText, wholeText}
+use Rattle.shader.specs.Results.{textOf}
 use Rattle.shader.specs.declared.Before.the-variants.{Ordinary}
 use Rattle.shader.proofs.Names.Truth.{and-fst, and-snd, cond-cases, below-at}
 use Rattle.shader.proofs.Names.Rules.{active-short}
@@ -29,7 +29,8 @@ use Rattle.values.specs.declared.Variant.{Variant}
 use Rattle.values.specs.declared.Entry.{Entry}
 use Rattle.lengths.specs.Bounds.{greatestLength, Typed, Permitted}
 use Rattle.lengths.proofs.Sums.{flag, cond-le}
-use Rattle.lengths.proofs.Lines.{budget, Within}
+use Rattle.lengths.proofs.Expressions.{budget}
+use Rattle.lengths.proofs.Lines.{Within}
 use Rattle.lengths.proofs.Lookups.{added, gain}
 use Rattle.lengths.proofs.Stages.{AllWithin, weight, stages-le}
 
@@ -219,7 +220,8 @@ module _ (k : Key) (v : Variant) (e : Entry) (typed : Typed k v) where
   wide-le : length (textOf k v e) ≤ 6625 + length (nameOf e)
   unfolding wideMost
   wide-le =
-      omega (arith, whole-le (effective k) v e (typed .mask) 115 115 14 wideMost (lit≤ tt) (wide-within (activeStages k)) stages-short wide-line wide-bump wide-last)
+      let within = wide-within (activeStages k) in
+      omega (arith, whole-le (effective k) v e (typed .mask) 115 115 14 wideMost (lit≤ tt) within stages-short wide-line wide-bump wide-last)
 
   any-le : (w : Bool) → k .wide ≡ w → length (textOf k v e) ≤ greatestLength w (length (nameOf e))
   any-le true h = wide-le

@@ -1,27 +1,24 @@
 -- A stage's lookup and its parameters. At the stage's own coordinate a lookup takes at most 199 bytes, a depth comparison 203, but the texture of a
 -- comparison has a shorter type; behind a bump stage a lookup takes 237 bytes more, or 243 where the rows of the bump stage have two digits.
-use Prim.Native.Nat.{ℕ, suc, _+_, _-_, _*_, _/_, _%_, _≤_, _<_, min}
-use mathlib.Core.Bool.{Bool, true, false, not, _&&_, _||_, cond}
-use mathlib.Core.List.{List, [], _∷_}
+use Prim.Native.Nat.{ℕ, _+_, _-_, _*_, _≤_, _<_, min}
+use mathlib.Core.Bool.{Bool, true, false, cond}
 use native.Mathlib.Omega.{arith}
 use native.Mathlib.Nat.{le-trans}
 use lib.Dec.{leb, leb→le, lit≤}
-use lib.ListN.{length}
-use Rattle.text.specs.Text.{Text, size, digit, decimalOf, decimal}
+use Rattle.text.specs.Text.{Text, size, decimalOf, decimal}
 use Rattle.text.proofs.Size.{most, size-most}
 use Rattle.combiners.specs.Codes.{bit}
 use Rattle.combiners.specs.Arguments.{texelName}
-use Rattle.cascade.specs.Keys.{textured, bump}
-use Rattle.shader.specs.Lookups.{lookupOf, textureTypeOf, typeText, textureName, samplerName, coordinateText, lodRow, bumpRow, levelText, quotientText, uvText, halfTexelText, gatherText, depthText, compareText, plainText, texelLine, projectedLine, lookupText, beforeOf, dividedLine, offsetText, movedText, displacedLine, displacementText, luminanceLine, sampleText}
+use Rattle.cascade.specs.Keys.{bump}
+use Rattle.shader.specs.Lookups.{lookupOf, textureTypeOf, typeText, textureName, samplerName, coordinateText, lodRow, bumpRow, levelText, quotientText, uvText, halfTexelText, gatherText, depthText, compareText, plainText, texelLine, projectedLine, lookupText, dividedLine, offsetText, movedText, displacedLine, displacementText, luminanceLine, sampleText}
 use Rattle.shader.specs.Whole.{textureParameter, samplerParameter}
-use Rattle.shader.specs.declared.Coordinate.the-variants.{Interpolated, Divided, Displaced}
+use Rattle.shader.specs.declared.Coordinate.the-variants.{Interpolated, Displaced}
 use Rattle.shader.specs.declared.Lookup.{Lookup}
 use Rattle.shader.specs.declared.Lookup.the-variants.{Fetch4, DepthFetch, DepthCompare, Plain}
 use Rattle.shader.specs.declared.TextureType.the-variants.{Depth, Volume, Cube, Flat}
 use Rattle.shader.specs.declared.Before.{Before}
 use Rattle.shader.specs.declared.Before.the-variants.{Ordinary, Displacing}
 use Rattle.shader.proofs.Names.Truth.{below-at}
-use Rattle.values.specs.declared.Stage.{Stage}
 use Rattle.values.specs.declared.Variant.{Variant}
 use Rattle.lengths.proofs.Sums.{flag}
 

@@ -23,8 +23,9 @@ use Rattle.shader.proofs.Names.Truth.{cond-cases}
 use Rattle.values.specs.declared.Stage.{Stage}
 use Rattle.values.specs.declared.Variant.{Variant}
 use Rattle.lengths.proofs.Sums.{flag, flag-le, or-le, either-le}
+use Rattle.lengths.proofs.Expressions.{credit}
 use Rattle.lengths.proofs.Lines.{Within, stage-line}
-use Rattle.lengths.proofs.Lookups.{isCompare, added, gain, Earlier, sample-le, parameters-le, parameters-low}
+use Rattle.lengths.proofs.Lookups.{added, gain, Earlier, sample-le, parameters-le, parameters-low}
 
 -- the line of a stage, where it has one
 abbrev lineSize : ℕ → Stage → ℕ
@@ -41,7 +42,7 @@ line-size alive i s = go (bump s)
 
 -- One stage by its tests, with its lookup of S bytes, its parameters of P and its line of L: a bump stage or not, textured, with a line, reading its
 -- texel, reading TEMP, the next stage marked.
-step : (b tex ln texel temp next : Bool) (S P L g line : ℕ) → P + S ≤ 275 + g → P ≤ 76 → 9 ≤ P → L + (9 * flag (tex && texel) + 7 * flag temp) ≤ 9 + line
+step : (b tex ln texel temp next : Bool) (S P L g line : ℕ) → P + S ≤ 275 + g → P ≤ 76 → 9 ≤ P → L + credit tex texel temp ≤ 9 + line
     → cond (cond b (tex && next) (ln && texel)) S 0 + cond (not b && ln) L 0 + cond tex P 0 + 7 * flag (not b && temp) ≤ 275 + g + cond b 0 line
 unfolding flag
 step true true ln texel temp true S P L g line h₁ h₂ h₃ h₄ = omega arith
@@ -89,11 +90,14 @@ module _ (colour alpha : ℕ) where
     weightFrom = weight spare v projected alive
 
     module _ (p : Before) (earlier : Earlier p) (i : ℕ) (s : Stage) (within : Within colour alpha s) (r : List Stage) where
-      lookup-le : (size (textureParameter v i) + size (samplerParameter i)) + size (sampleText p (lookupOf v i) (lodBias v) (bit projected i) i) ≤ 275 + gain p
+      lookup-le : (size (textureParameter v i) + size (samplerParameter i)) + size (sampleText p (lookupOf v i) (lodBias v) (bit projected i) i)
+          ≤ 275 + gain p
       lookup-le = omega (arith, sample-le p earlier (lookupOf v i) (lodBias v) (bit projected i) i, parameters-le v i)
 
-      line-le : lineSize i s + (9 * flag (textured s && readsTexel s) + 7 * flag (readsTemp s)) ≤ 9 + line
-      line-le = line-sum _ _ _ colour alpha (size-most (lineText i (textured s) (toTemp s) (expressionOf (textured s) (s .colour)) (alphaOf s))) (stage-line i s colour alpha within)
+      line-le : lineSize i s + credit (textured s) (readsTexel s) (readsTemp s) ≤ 9 + line
+      line-le =
+          let text = lineText i (textured s) (toTemp s) (expressionOf (textured s) (s .colour)) (alphaOf s) in
+          line-sum _ _ _ colour alpha (size-most text) (stage-line i s colour alpha within)
 
       stage-le : weightFrom p i (s ∷ r) ≤ 275 + gain p + cond (bump s) spare line + weightFrom (beforeOf i s) (suc i) r
       unfolding weight stagesText samplersText live marked readsBumpEnv
@@ -108,7 +112,8 @@ module _ (colour alpha : ℕ) where
 
     -- the most that the stages from i on take, by what one takes and what it leaves for those behind it
     module _ (most : ℕ → ℕ) (line-fits : (i : ℕ) → i ≤ 6 → 275 + line + most (suc i) ≤ most i)
-        (bump-fits : (i : ℕ) → i ≤ 6 → 275 + spare + added i + most (suc i) ≤ most i) (last-fits : (b : Bool) (i : ℕ) → 275 + cond b spare line ≤ most i) where
+        (bump-fits : (i : ℕ) → i ≤ 6 → 275 + spare + added i + most (suc i) ≤ most i)
+        (last-fits : (b : Bool) (i : ℕ) → 275 + cond b spare line ≤ most i) where
       next-fits : (i : ℕ) (s : Stage) → i ≤ 6 → 275 + cond (bump s) spare line + gain (beforeOf i s) + most (suc i) ≤ most i
       unfolding beforeOf gain
       next-fits i s h = go (bump s)
@@ -121,9 +126,11 @@ module _ (colour alpha : ℕ) where
       unfolding beforeOf
       earlier-next i s h = cond-cases (bump s) _ _ Earlier (λ t. h) (λ t. tt)
 
-      pub stages-le : (p : Before) → Earlier p → (i : ℕ) (ss : List Stage) → AllWithin ss → i + length ss ≤ 8 → weightFrom p i ss ≤ gain p + most i
+      pub stages-le : (p : Before) → Earlier p → (i : ℕ) (ss : List Stage) → AllWithin ss → i + length ss ≤ 8
+          → weightFrom p i ss ≤ gain p + most i
       stages-le p e i [] w h = omega (arith, none-le spare v projected alive p i)
-      stages-le p e i (s ∷ []) w h = omega (arith, stage-le p e i s (w .0) [], none-le spare v projected alive (beforeOf i s) (suc i), last-fits (bump s) i)
+      stages-le p e i (s ∷ []) w h =
+          omega (arith, stage-le p e i s (w .0) [], none-le spare v projected alive (beforeOf i s) (suc i), last-fits (bump s) i)
       stages-le p e i (s ∷ (t ∷ r)) w h =
           omega (
             arith,

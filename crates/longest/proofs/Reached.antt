@@ -15,7 +15,7 @@ use Rattle.lengths.specs.Bounds.{greatestLength, Typed, Permitted}
 use Rattle.lengths.specs.Witness.{longestKey, longestVariant}
 use Rattle.lengths.proofs.Longest.{at-most-greatest}
 use Rattle.lengths.proofs.Reached.{reached}
-use Rattle.longest.specs.Lines.{printed, Longest}
+use Rattle.longest.specs.Lines.{longestLines, Longest}
 
 key-read : readRecord (recordBytes (keyRecord (longestKey false))) ≡ took (keyRecord (longestKey false))
 unfolding bodyBytes keyBytes stagesBytes readRecord readAs readBody keyFromBody stagesFromBytes stageFlagsBad
@@ -30,8 +30,8 @@ none-longer k v e t narrow p one =
     let bound : greatestLength (k .wide) (e .len) ≡ greatestLength false 1 = rw (narrow, one) in
     subst (λ (n : ℕ). length (textOf k v e) ≤ n) bound (at-most-greatest k v e t p)
 
-pub longest : Longest printed
-unfolding printed
+pub longest : Longest longestLines
+unfolding longestLines
 longest =
     record {
       size = greatestLength false 1;

@@ -5,7 +5,7 @@ use mathlib.Core.Bool.{false}
 use mathlib.Core.Path.{_≡_}
 use mathlib.Core.List.{List, [], _∷_}
 use lib.ListN.{length, getD}
-use Rattle.text.specs.Text.{Text, raw, bytes, flat, decimal}
+use Rattle.text.specs.Text.{raw, bytes, flat, decimal}
 use Rattle.text.specs.Format.{format, _≔_}
 use Rattle.shader.specs.Results.{textOf}
 use Rattle.values.specs.declared.Key.{Key}
@@ -31,8 +31,8 @@ threeLines n key variant =
     (format "{length}\n{key}\n{variant}\n"
     (("length" ≔ decimal n) ∷ ("key" ≔ raw (hexadecimal key)) ∷ ("variant" ≔ raw (hexadecimal variant)) ∷ []))
 
-unfoldable pub printed : List ℕ
-printed = threeLines (greatestLength false 1) (recordBytes (keyRecord (longestKey false))) (recordBytes (variantRecord (longestVariant false)))
+unfoldable pub longestLines : List ℕ
+longestLines = threeLines (greatestLength false 1) (recordBytes (keyRecord (longestKey false))) (recordBytes (variantRecord (longestVariant false)))
 
 -- What is promised of printed bytes: they are three lines, and the reader takes the records that two of them show for a key of kind 1 and a variant, whose
 -- text with an entry of one byte has the length that the first shows; no text of a key of kind 1 with such an entry is longer.

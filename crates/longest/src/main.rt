@@ -3,13 +3,14 @@ use libc::STDERR_FILENO;
 use libc::STDOUT_FILENO;
 use text::put;
 ghost use mathlib.Core.Path.{_≡_};
-ghost use Rattle.longest.specs.Lines.{printed};
+ghost use Rattle.longest.specs.Lines.{longestLines, Longest};
 
 // The lines have 4, 118 and 40 digits, and a newline each.
 const LINES_LENGTH: usize = 165;
 
 fn put_lines(out: &mut [u8; LINES_LENGTH])
-    ensures { λ _. ⌜ now (out .exit) ≡ printed ⌝ }
+    ensures lines { λ _. ⌜ now (out .exit) ≡ longestLines ⌝ }
+    ensures longest { λ _. ⌜ Longest (now (out .exit)) ⌝ }
 {
     let a = put(out, 0, b"6485\n");
     let b = put(
