@@ -1,11 +1,11 @@
 -- No text is longer than its kind's greatest length, and an entry of n bytes adds n - 1 to the text with an entry of one byte.
 use Prim.Native.Nat.{ℕ, suc, _+_, _-_, _*_, _≤_, _<_, max}
-use mathlib.Core.Bool.{Bool, true, false, cond}
+use mathlib.Core.Bool.{Bool, true, false, not, cond}
 use mathlib.Core.Path.{_≡_, refl, subst, ap}
 use mathlib.Core.List.{List, [], _∷_, map}
 use native.Mathlib.Omega.{arith}
 use native.Mathlib.Nat.{le-trans}
-use lib.Dec.{T, eqb, leb, leb→le, lit≤}
+use lib.Dec.{T, eqb, leb, ltb, leb→le, ltb→lt, lit≤}
 use lib.ListN.{length, length-take}
 use Rattle.text.specs.Text.{size, flat, decimalOf, decimal}
 use Rattle.text.proofs.Laws.{flat-length}
@@ -18,11 +18,16 @@ use Rattle.cascade.specs.Reading.{live, readsBumpEnv}
 use Rattle.cascade.proofs.Narrowing.{effective-length}
 use Rattle.shader.specs.Output.{sampleMask, pointSprite, lodBias, fogged, tested, srgbWrite, specularText, fogDepthText, fogFactorText, fogText, comparisonText, testText, srgbText, returnText, outputText}
 use Rattle.shader.specs.Whole.{varyingsText, srgbHelperText, fragmentText, frontText, stageInText, samplersText, parametersText, spriteLine, spriteText, localsText, bodyText, wholeText}
-use Rattle.shader.specs.Results.{textOf}
+use Rattle.shader.specs.Results.{textOf, emittedOf, answerOf, answerNumber}
 use Rattle.shader.specs.declared.Before.the-variants.{Ordinary}
 use Rattle.shader.proofs.Names.Truth.{and-fst, and-snd, cond-cases, below-at}
 use Rattle.shader.proofs.Names.Rules.{active-short}
 use Rattle.values.specs.Entries.{nameOf, isIdentifier, entryGood}
+use Rattle.values.specs.Flags.{stageFlagsBad, variantFlagsBad}
+use Rattle.values.specs.Words.{entryReserved}
+use Rattle.values.specs.declared.Answer.{Answer}
+use Rattle.values.specs.declared.Answer.the-variants.{Text, Refused}
+use Rattle.values.specs.declared.Refusal.the-variants.{StageFlags, VariantFlags, EntryName, ReservedWord, NoRoom}
 use Rattle.values.specs.declared.Stage.{Stage}
 use Rattle.values.specs.declared.Key.{Key}
 use Rattle.values.specs.declared.Variant.{Variant}
@@ -259,3 +264,22 @@ entry-adds k v e one p q h =
       name-length one q,
       name-some e p,
     )
+
+-- A buffer of that length takes every text: 8 is not answered there.
+abbrev HasRoom : Answer → Type 0
+HasRoom a = a ≡ Refused NoRoom → ⊥
+
+has-room : (a : Answer) → T (not (eqb (answerNumber a) 8)) → HasRoom a
+has-room a t e = subst (λ (n : ℕ). T (not (eqb n 8))) (ap answerNumber e) t
+
+module _ (k : Key) (v : Variant) (e : Entry) (t : Typed k v) (p : Permitted e) (room : ℕ) (h : greatestLength (k .wide) (e .len) ≤ room) where
+  pub never-no-room : HasRoom (answerOf k v e room)
+  unfolding answerOf
+  never-no-room =
+      let size = length (textOf k v e) in
+      cond-cases (stageFlagsBad (k .stages)) _ _ HasRoom (λ b. has-room (Refused StageFlags) tt) λ b.
+      cond-cases (variantFlagsBad v) _ _ HasRoom (λ b. has-room (Refused VariantFlags) tt) λ b.
+      cond-cases (not (entryGood e)) _ _ HasRoom (λ b. has-room (Refused EntryName) tt) λ b.
+      cond-cases (entryReserved e) _ _ HasRoom (λ b. has-room (Refused ReservedWord) tt) λ b.
+      cond-cases (ltb room size) _ _ HasRoom (λ b. absurd (omega (arith, ltb→lt room size b, at-most-greatest k v e t p)))
+      (λ b. has-room (Text (emittedOf k v e)) tt)
