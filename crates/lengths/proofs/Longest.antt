@@ -216,13 +216,13 @@ module _ (k : Key) (v : Variant) (e : Entry) (typed : Typed k v) where
   stages-short : length (effectiveStages k) ≤ 8
   stages-short = omega (arith, typed .stages, effective-length k)
 
-  narrow-le : k .wide ≡ false → length (textOf k v e) ≤ 6484 + length (nameOf e)
+  narrow-le : k .wide ≡ false → length (textOf k v e) ≤ greatestLength false (length (nameOf e))
   unfolding effectiveStages narrowMost
   narrow-le w =
       let within : AllWithin 100 103 (activeStages k) = rw w (narrow-within (k .stages)) in
       omega (arith, whole-le (effective k) v e (typed .mask) 100 103 0 narrowMost (lit≤ tt) within stages-short narrow-line narrow-bump narrow-last)
 
-  wide-le : length (textOf k v e) ≤ 6625 + length (nameOf e)
+  wide-le : length (textOf k v e) ≤ greatestLength true (length (nameOf e))
   unfolding wideMost
   wide-le =
       let within = wide-within (activeStages k) in
