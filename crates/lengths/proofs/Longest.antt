@@ -212,6 +212,13 @@ wide-within (s ∷ r) = (record { first = omega (arith, budget-le (s .colour .op
 
 -- ---------------------------------------------------------------- the theorems
 
+-- of stages taken as they are, whatever their ops
+pub whole-at-most : (k : Key) (v : Variant) (e : Entry) → v .«sample_mask» < 256 → length (k .stages) ≤ 8
+    → length (flat (wholeText k v e)) ≤ greatestLength true (length (nameOf e))
+unfolding wideMost
+whole-at-most k v e mask eight =
+    omega (arith, whole-le k v e mask 115 115 14 wideMost (lit≤ tt) (wide-within (active (k .stages))) eight wide-line wide-bump wide-last)
+
 module _ (k : Key) (v : Variant) (e : Entry) (typed : Typed k v) where
   stages-short : length (effectiveStages k) ≤ 8
   stages-short = omega (arith, typed .stages, effective-length k)
@@ -222,14 +229,8 @@ module _ (k : Key) (v : Variant) (e : Entry) (typed : Typed k v) where
       let within : AllWithin 100 103 (activeStages k) = rw w (narrow-within (k .stages)) in
       omega (arith, whole-le (effective k) v e (typed .mask) 100 103 0 narrowMost (lit≤ tt) within stages-short narrow-line narrow-bump narrow-last)
 
-  wide-le : length (textOf k v e) ≤ greatestLength true (length (nameOf e))
-  unfolding wideMost
-  wide-le =
-      let within = wide-within (activeStages k) in
-      omega (arith, whole-le (effective k) v e (typed .mask) 115 115 14 wideMost (lit≤ tt) within stages-short wide-line wide-bump wide-last)
-
   any-le : (w : Bool) → k .wide ≡ w → length (textOf k v e) ≤ greatestLength w (length (nameOf e))
-  any-le true h = wide-le
+  any-le true h = whole-at-most (effective k) v e (typed .mask) stages-short
   any-le false h = narrow-le h
 
 -- the name of a permitted entry has as many bytes as its length says, one at least
