@@ -7,3 +7,4 @@ mod Stages
 -- The theorems: no text is longer, and the greatest lengths are reached.
 pub mod Longest
 pub mod Reached
+pub mod Room

@@ -1,11 +1,11 @@
 -- No text is longer than its kind's greatest length, and an entry of n bytes adds n - 1 to the text with an entry of one byte.
 use Prim.Native.Nat.{ℕ, suc, _+_, _-_, _*_, _≤_, _<_, max}
-use mathlib.Core.Bool.{Bool, true, false, not, cond}
+use mathlib.Core.Bool.{Bool, true, false, cond}
 use mathlib.Core.Path.{_≡_, refl, subst, ap}
 use mathlib.Core.List.{List, [], _∷_, map}
 use native.Mathlib.Omega.{arith}
 use native.Mathlib.Nat.{le-trans}
-use lib.Dec.{T, eqb, leb, ltb, leb→le, ltb→lt, lit≤}
+use lib.Dec.{T, eqb, leb, leb→le, lit≤}
 use lib.ListN.{length, length-take}
 use Rattle.text.specs.Text.{size, flat, decimalOf, decimal}
 use Rattle.text.proofs.Laws.{flat-length}
@@ -18,16 +18,12 @@ use Rattle.cascade.specs.Reading.{live, readsBumpEnv}
 use Rattle.cascade.proofs.Narrowing.{effective-length}
 use Rattle.shader.specs.Output.{sampleMask, pointSprite, lodBias, fogged, tested, srgbWrite, specularText, fogDepthText, fogFactorText, fogText, comparisonText, testText, srgbText, returnText, outputText}
 use Rattle.shader.specs.Whole.{varyingsText, srgbHelperText, fragmentText, frontText, stageInText, samplersText, parametersText, spriteLine, spriteText, localsText, bodyText, wholeText}
-use Rattle.shader.specs.Results.{textOf, emittedOf, answerOf, answerNumber}
+use Rattle.shader.specs.Results.{textOf}
 use Rattle.shader.specs.declared.Before.the-variants.{Ordinary}
 use Rattle.shader.proofs.Names.Truth.{and-fst, and-snd, cond-cases, below-at}
 use Rattle.shader.proofs.Names.Rules.{active-short}
 use Rattle.values.specs.Entries.{nameOf, isIdentifier, entryGood}
-use Rattle.values.specs.Flags.{stageFlagsBad, variantFlagsBad}
-use Rattle.values.specs.Words.{entryReserved}
-use Rattle.values.specs.declared.Answer.{Answer}
-use Rattle.values.specs.declared.Answer.the-variants.{Text, Refused}
-use Rattle.values.specs.declared.Refusal.the-variants.{StageFlags, VariantFlags, EntryName, ReservedWord, NoRoom}
+use Rattle.values.specs.declared.Answer.the-variants.{Text}
 use Rattle.values.specs.declared.Stage.{Stage}
 use Rattle.values.specs.declared.Key.{Key}
 use Rattle.values.specs.declared.Variant.{Variant}
@@ -67,14 +63,10 @@ unfolding localsText flag
 locals-le true = omega arith
 locals-le false = omega arith
 
--- one test over the bytes that a sample mask can be
-mask-le : (n : ℕ) → n < 256 → size (decimal n) ≤ 3
-unfolding decimalOf
-mask-le n h = leb→le _ _ (below-at (λ n. leb (size (decimal n)) 3) 256 n tt h)
-
-return-le : (v : Variant) → v .«sample_mask» < 256 → size (returnText v) ≤ 36
+-- a sample mask in d digits
+return-le : (v : Variant) (d : ℕ) → size (decimal (v .«sample_mask»)) ≤ d → size (returnText v) ≤ 33 + d
 unfolding returnText
-return-le v h = cond-cases (sampleMask v) _ _ (λ (n : ℕ). n ≤ 36) (λ t. omega (arith, mask-le (v .«sample_mask») h)) (λ t. lit≤ tt)
+return-le v d h = cond-cases (sampleMask v) _ _ (λ (n : ℕ). n ≤ 33 + d) (λ t. omega arith) (λ t. omega arith)
 
 specular-le : (b : Bool) → most (specularText b) ≤ 72
 unfolding specularText
@@ -92,16 +84,16 @@ srgb-le : (b : Bool) → most (srgbText b) ≤ 46
 unfolding srgbText
 srgb-le b = lit≤ tt
 
-output-le : (b : Bool) (v : Variant) → v .«sample_mask» < 256 → size (outputText b v) ≤ 513
+output-le : (b : Bool) (v : Variant) (d : ℕ) → size (decimal (v .«sample_mask»)) ≤ d → size (outputText b v) ≤ 510 + d
 unfolding outputText
-output-le b v h =
+output-le b v d h =
     omega (
       arith,
       le-trans (size-most (specularText b)) (specular-le b),
       le-trans (size-most (fogText v)) (fog-le v),
       le-trans (size-most (testText v)) (test-le v),
       le-trans (size-most (srgbText (srgbWrite v))) (srgb-le (srgbWrite v)),
-      return-le v h,
+      return-le v d h,
     )
 
 -- ---------------------------------------------------------------- the whole
@@ -111,12 +103,12 @@ env-le : (b : Bool) (spare : ℕ) → spare ≤ 46 → cond b 46 0 ≤ 46 - spar
 env-le true spare h = omega arith
 env-le false spare h = omega arith
 
-module _ (k : Key) (v : Variant) (e : Entry) (mask : v .«sample_mask» < 256) where
+module _ (k : Key) (v : Variant) (e : Entry) (d : ℕ) (digits : size (decimal (v .«sample_mask»)) ≤ d) where
   abbrev ss : List Stage
   ss = active (k .stages)
 
   rest-le : (spare : ℕ) → spare ≤ 46
-      → size (wholeText k v e) ≤ 2383 - spare + length (nameOf e) + weight spare v (k .projected) (live ss) Ordinary 0 ss
+      → size (wholeText k v e) ≤ 2380 - spare + d + length (nameOf e) + weight spare v (k .projected) (live ss) Ordinary 0 ss
   unfolding wholeText bodyText weight
   rest-le spare h =
       omega (
@@ -126,7 +118,7 @@ module _ (k : Key) (v : Variant) (e : Entry) (mask : v .«sample_mask» < 256) w
         env-le (readsBumpEnv (live ss) ss) spare h,
         le-trans (size-most (spriteText (pointSprite v))) (sprite-le (pointSprite v)),
         locals-le (live ss),
-        output-le (k .«specular_add») v mask,
+        output-le (k .«specular_add») v d digits,
       )
 
   -- stages that are within these lengths, and the most that they take
@@ -134,7 +126,7 @@ module _ (k : Key) (v : Variant) (e : Entry) (mask : v .«sample_mask» < 256) w
       → ((i : ℕ) → i ≤ 6 → 275 + (27 + colour + alpha) + bound (suc i) ≤ bound i)
       → ((i : ℕ) → i ≤ 6 → 275 + spare + added i + bound (suc i) ≤ bound i)
       → ((b : Bool) (i : ℕ) → 275 + cond b spare (27 + colour + alpha) ≤ bound i)
-      → length (flat (wholeText k v e)) ≤ 2383 - spare + length (nameOf e) + bound 0
+      → length (flat (wholeText k v e)) ≤ 2380 - spare + d + length (nameOf e) + bound 0
   unfolding gain
   whole-le colour alpha spare bound low within eight line-fits bump-fits last-fits =
       omega (
@@ -212,26 +204,49 @@ wide-within (s ∷ r) = (record { first = omega (arith, budget-le (s .colour .op
 
 -- ---------------------------------------------------------------- the theorems
 
--- of stages taken as they are, whatever their ops
+-- one test over the bytes that a sample mask can be
+mask-le : (n : ℕ) → n < 256 → size (decimal n) ≤ 3
+unfolding decimalOf
+mask-le n h = leb→le _ _ (below-at (λ n. leb (size (decimal n)) 3) 256 n tt h)
+
+-- a sample mask that is no byte has twenty digits at most
+number-most : (n : ℕ) → most (decimal n) ≤ 20
+unfolding decimalOf
+number-most n = lit≤ tt
+
+-- stages taken as they are, whatever their ops
+stages-at-most : (k : Key) (v : Variant) (e : Entry) (d : ℕ) → size (decimal (v .«sample_mask»)) ≤ d → length (k .stages) ≤ 8
+    → length (flat (wholeText k v e)) ≤ 6622 + d + length (nameOf e)
+unfolding wideMost
+stages-at-most k v e d digits eight =
+    omega (arith, whole-le k v e d digits 115 115 14 wideMost (lit≤ tt) (wide-within (active (k .stages))) eight wide-line wide-bump wide-last)
+
 pub whole-at-most : (k : Key) (v : Variant) (e : Entry) → v .«sample_mask» < 256 → length (k .stages) ≤ 8
     → length (flat (wholeText k v e)) ≤ greatestLength true (length (nameOf e))
-unfolding wideMost
-whole-at-most k v e mask eight =
-    omega (arith, whole-le k v e mask 115 115 14 wideMost (lit≤ tt) (wide-within (active (k .stages))) eight wide-line wide-bump wide-last)
+whole-at-most k v e mask eight = stages-at-most k v e 3 (mask-le (v .«sample_mask») mask) eight
 
-module _ (k : Key) (v : Variant) (e : Entry) (typed : Typed k v) where
-  stages-short : length (effectiveStages k) ≤ 8
-  stages-short = omega (arith, typed .stages, effective-length k)
+module _ (k : Key) (v : Variant) (e : Entry) where
+  effective-short : length (k .stages) ≤ 8 → length (effectiveStages k) ≤ 8
+  effective-short h = omega (arith, effective-length k)
 
-  narrow-le : k .wide ≡ false → length (textOf k v e) ≤ greatestLength false (length (nameOf e))
-  unfolding effectiveStages narrowMost
-  narrow-le w =
-      let within : AllWithin 100 103 (activeStages k) = rw w (narrow-within (k .stages)) in
-      omega (arith, whole-le (effective k) v e (typed .mask) 100 103 0 narrowMost (lit≤ tt) within stages-short narrow-line narrow-bump narrow-last)
+  -- whatever number the sample mask is
+  pub any-at-most : length (k .stages) ≤ 8 → length (textOf k v e) ≤ 6642 + length (nameOf e)
+  any-at-most h = stages-at-most (effective k) v e 20 (le-trans (size-most (decimal (v .«sample_mask»))) (number-most (v .«sample_mask»))) (effective-short h)
 
-  any-le : (w : Bool) → k .wide ≡ w → length (textOf k v e) ≤ greatestLength w (length (nameOf e))
-  any-le true h = whole-at-most (effective k) v e (typed .mask) stages-short
-  any-le false h = narrow-le h
+  module _ (typed : Typed k v) where
+    stages-short : length (effectiveStages k) ≤ 8
+    stages-short = effective-short (omega (arith, typed .stages))
+
+    narrow-le : k .wide ≡ false → length (textOf k v e) ≤ greatestLength false (length (nameOf e))
+    unfolding effectiveStages narrowMost
+    narrow-le w =
+        let within : AllWithin 100 103 (activeStages k) = rw w (narrow-within (k .stages)) in
+        let digits = mask-le (v .«sample_mask») (typed .mask) in
+        omega (arith, whole-le (effective k) v e 3 digits 100 103 0 narrowMost (lit≤ tt) within stages-short narrow-line narrow-bump narrow-last)
+
+    kind-le : (w : Bool) → k .wide ≡ w → length (textOf k v e) ≤ greatestLength w (length (nameOf e))
+    kind-le true h = whole-at-most (effective k) v e (typed .mask) stages-short
+    kind-le false h = narrow-le h
 
 -- the name of a permitted entry has as many bytes as its length says, one at least
 pub name-length : (e : Entry) → Permitted e → length (nameOf e) ≡ e .len
@@ -250,7 +265,7 @@ name-some e p =
 
 -- No text is longer.
 pub at-most-greatest : (k : Key) (v : Variant) (e : Entry) → Typed k v → Permitted e → length (textOf k v e) ≤ greatestLength (k .wide) (e .len)
-at-most-greatest k v e t p = subst (λ (n : ℕ). length (textOf k v e) ≤ greatestLength (k .wide) n) (name-length e p) (any-le k v e t (k .wide) refl)
+at-most-greatest k v e t p = subst (λ (n : ℕ). length (textOf k v e) ≤ greatestLength (k .wide) n) (name-length e p) (kind-le k v e t (k .wide) refl)
 
 -- An entry of n bytes adds n - 1 to the text with an entry of one byte.
 pub entry-adds : (k : Key) (v : Variant) (e one : Entry) → Permitted e → Permitted one → one .len ≡ 1
@@ -265,22 +280,3 @@ entry-adds k v e one p q h =
       name-length one q,
       name-some e p,
     )
-
--- A buffer of that length takes every text: 8 is not answered there.
-abbrev HasRoom : Answer → Type 0
-HasRoom a = a ≡ Refused NoRoom → ⊥
-
-has-room : (a : Answer) → T (not (eqb (answerNumber a) 8)) → HasRoom a
-has-room a t e = subst (λ (n : ℕ). T (not (eqb n 8))) (ap answerNumber e) t
-
-module _ (k : Key) (v : Variant) (e : Entry) (t : Typed k v) (p : Permitted e) (room : ℕ) (h : greatestLength (k .wide) (e .len) ≤ room) where
-  pub never-no-room : HasRoom (answerOf k v e room)
-  unfolding answerOf
-  never-no-room =
-      let size = length (textOf k v e) in
-      cond-cases (stageFlagsBad (k .stages)) _ _ HasRoom (λ b. has-room (Refused StageFlags) tt) λ b.
-      cond-cases (variantFlagsBad v) _ _ HasRoom (λ b. has-room (Refused VariantFlags) tt) λ b.
-      cond-cases (not (entryGood e)) _ _ HasRoom (λ b. has-room (Refused EntryName) tt) λ b.
-      cond-cases (entryReserved e) _ _ HasRoom (λ b. has-room (Refused ReservedWord) tt) λ b.
-      cond-cases (ltb room size) _ _ HasRoom (λ b. absurd (omega (arith, ltb→lt room size b, at-most-greatest k v e t p)))
-      (λ b. has-room (Text (emittedOf k v e)) tt)
