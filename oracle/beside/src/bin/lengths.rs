@@ -25,7 +25,7 @@ const CHANGES: u64 = 20_000;
 /// Climbs for a bound that is far too low, always the same.
 const SELF_TEST: u64 = 1;
 /// How far below the greatest length such a bound is.
-const NEAR: usize = 120;
+const NEAR: usize = 60;
 /// How many differences are printed.
 const SHOWN: u64 = 10;
 
@@ -44,6 +44,8 @@ const WIDE: [&str; 2] = [
      01ff",
     "02030003bf00000040004000000000004000ff1f",
 ];
+/// Masks of a variant, two bytes each, behind its first three bytes.
+const MASKS: usize = 7;
 /// Bytes that an entry of 32 has more than one of one.
 const LONGER_ENTRY: usize = 31;
 
@@ -214,8 +216,7 @@ struct Run {
     neighbours: u64,
     refused: u64,
     climbs: u64,
-    /// Changes that climbs tried, and the longest text that each came to.
-    changes: u64,
+    /// The longest text that each climb came to.
     summits: Vec<usize>,
     differences: u64,
     shown: u64,
@@ -231,7 +232,6 @@ impl Run {
             neighbours: 0,
             refused: 0,
             climbs: 0,
-            changes: 0,
             summits: Vec::new(),
             differences: 0,
             shown: SHOWN,
@@ -298,34 +298,51 @@ impl Run {
                 }
             }
             self.climbs += 1;
-            self.changes += CHANGES;
             self.summits.push(longest);
         }
     }
 
-    /// A few bytes of the key or the variant changed, or a stage put in the place of another.
+    /// Up to three changes of the key or the variant.
     fn changed(&mut self, bodies: &[u8]) -> Vec<u8> {
         let mut bodies = bodies.to_vec();
-        let stage = self.kind.stage;
-        if self.rng.one_in(4) {
-            let (from, to) = (self.rng.below(8) * stage, self.rng.below(8) * stage);
-            bodies.copy_within(from..from + stage, to);
-            return bodies;
-        }
         for _ in 0..1 + self.rng.below(3) {
-            let at = self.rng.below(self.kind.key + VARIANT);
-            let byte = self.rng.byte();
-            bodies[at] = match at % stage {
-                flags if at < 8 * stage && flags == stage - 1 => byte % 4,
-                _ if self.rng.one_in(4) => byte,
-                // one bit of a mask
-                _ if at >= 8 * stage => bodies[at] ^ 1 << (byte % 8),
-                0 | 3 => byte % 27,
-                // an argument with both modifiers
-                _ => 0x30 | byte % 8,
-            };
+            match self.rng.below(5) {
+                0 => self.copy_stage(&mut bodies),
+                1 => self.change_masks(&mut bodies),
+                _ => self.change_byte(&mut bodies),
+            }
         }
         bodies
+    }
+
+    /// A stage in the place of another.
+    fn copy_stage(&mut self, bodies: &mut [u8]) {
+        let stage = self.kind.stage;
+        let (from, to) = (self.rng.below(8) * stage, self.rng.below(8) * stage);
+        bodies.copy_within(from..from + stage, to);
+    }
+
+    /// A stage's bit of some of the variant's masks.
+    fn change_masks(&mut self, bodies: &mut [u8]) {
+        let (bit, which) = (self.rng.below(8), self.rng.byte());
+        let masks = &mut bodies[self.kind.key + 3..][..2 * MASKS];
+        for (n, mask) in masks.chunks_exact_mut(2).enumerate() {
+            mask[0] ^= (which >> n & 1) << bit;
+        }
+    }
+
+    fn change_byte(&mut self, bodies: &mut [u8]) {
+        let stage = self.kind.stage;
+        let at = self.rng.below(self.kind.key + VARIANT);
+        let byte = self.rng.byte();
+        bodies[at] = match at % stage {
+            flags if at < 8 * stage && flags == stage - 1 => byte % 4,
+            _ if self.rng.one_in(4) => byte,
+            _ if at >= 8 * stage => bodies[at] ^ 1 << (byte % 8),
+            0 | 3 => byte % 27,
+            // an argument with both modifiers
+            _ => 0x30 | (byte % 8),
+        };
     }
 
     fn check(&mut self, good: bool, bodies: &[u8], what: impl FnOnce() -> String) {
@@ -348,8 +365,8 @@ impl Run {
             self.neighbours, self.refused
         );
         println!(
-            "seed {seed}: {} climbs, {} changes, {reached} climbs to the greatest length, the longest text {summit}; {} differences",
-            self.climbs, self.changes, self.differences
+            "seed {seed}: {} climbs of {CHANGES} changes, {reached} of them to the greatest length, the longest text {summit}; {} differences",
+            self.climbs, self.differences
         );
     }
 }
