@@ -231,7 +231,9 @@ module _ (k : Key) (v : Variant) (e : Entry) where
 
   -- whatever number the sample mask is
   pub any-at-most : length (k .stages) ≤ 8 → length (textOf k v e) ≤ 6642 + length (nameOf e)
-  any-at-most h = stages-at-most (effective k) v e 20 (le-trans (size-most (decimal (v .«sample_mask»))) (number-most (v .«sample_mask»))) (effective-short h)
+  any-at-most h =
+      let mask = v .«sample_mask» in
+      stages-at-most (effective k) v e 20 (le-trans (size-most (decimal mask)) (number-most mask)) (effective-short h)
 
   module _ (typed : Typed k v) where
     stages-short : length (effectiveStages k) ≤ 8

@@ -17,6 +17,8 @@ use Rattle.shader.specs.Lookups.{lookupOf, textureTypeOf, textureName, samplerN
 use Rattle.shader.specs.Output.{specularText, fogDepthText, fogFactorText, fogText, comparisonText, testText, srgbText, returnText, outputText}
 use Rattle.shader.specs.Whole.{varyingsText, srgbHelperText, fragmentText, frontText, stageInText, textureParameter, samplerParameter, samplersText, parametersText, spriteLine, spriteText, stageLine, stagesText, localsText, bodyText, wholeText}
 use Rattle.shader.specs.Results.{textOf}
+use Rattle.shader.specs.Worked.{entryM}
+use Rattle.values.specs.Entries.{entryGood, all}
 use Rattle.values.specs.declared.Entry.{Entry}
 use Rattle.lengths.specs.Bounds.{greatestLength, Typed, Permitted}
 use Rattle.lengths.specs.Witness.{longestKey, longestVariant}
@@ -25,6 +27,11 @@ use Rattle.lengths.proofs.Longest.{name-length}
 pub typed : (wide : Bool) → Typed (longestKey wide) (longestVariant wide)
 typed true = record { stages = refl; mask = lit< tt }
 typed false = record { stages = refl; mask = lit< tt }
+
+-- the entry `m` is permitted
+pub permitted : Permitted entryM
+unfolding entryGood all
+permitted = record { bytes = refl; good = tt }
 
 -- the text before the entry, and behind it
 front-size : (wide : Bool) → size (frontText (longestVariant wide)) ≡ 943
