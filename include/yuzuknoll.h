@@ -14,7 +14,9 @@
  *     if (yuzuknoll_emit(&key, &variant, &entry, text, sizeof text, &result) == YUZUKNOLL_ACCEPTED)
  *         fwrite(text, 1, result.length, stdout);
  *
- * The command `rt staticlib yuzuknoll` makes the library, target/staticlib/libyuzuknoll.a, for x86-64 Linux.
+ * The command `rt staticlib yuzuknoll` makes the library, target/staticlib/libyuzuknoll.a, for x86-64 Linux. The command
+ * `ports/build` makes it for 64-bit Arm Linux, Macs and WebAssembly too. These give the same bytes on the calls that
+ * ports/test makes; the code for Macs was run, but not on a Mac. docs/PORTS.md says what was run where.
  *
  * The library needs no set-up, keeps nothing between calls and allocates no memory. Threads may call it at the same
  * time, as long as no call writes to memory that another one uses.
@@ -33,9 +35,9 @@
 extern "C" {
 #endif
 
-#define YUZUKNOLL_VERSION "0.10.0"
+#define YUZUKNOLL_VERSION "0.11.0"
 #define YUZUKNOLL_VERSION_MAJOR 0
-#define YUZUKNOLL_VERSION_MINOR 10
+#define YUZUKNOLL_VERSION_MINOR 11
 #define YUZUKNOLL_VERSION_PATCH 0
 
 /* ---- Refusals ---- */

@@ -7,9 +7,10 @@ neither true v e = absurd (true≢false (sym e))
 neither false true e = absurd (true≢false (sym e))
 neither false false e = (refl, refl)
 
-pub none-of-three : (u v w : Bool) → not (u || (v || w)) ≡ true → (u ≡ false) × (v ≡ false) × (w ≡ false)
-none-of-three true v w e = absurd (true≢false (sym e))
-none-of-three false v w e = let n = neither v w e in (refl, n .0, n .1)
+pub none-of-three : (u v w : Bool) → (u || (v || w)) ≡ false → (u ≡ false) × ((v ≡ false) × (w ≡ false))
+none-of-three true v w e = absurd (true≢false e)
+none-of-three false true w e = absurd (true≢false e)
+none-of-three false false w e = (refl, (refl, e))
 
 pub and-false : (x : Bool) → (x && false) ≡ false
 and-false true = refl

@@ -4,3 +4,4 @@ pub mod Narrowing
 mod PlainStages
 pub mod Reports
 mod Walking
+mod Three

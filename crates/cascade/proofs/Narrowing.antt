@@ -1,12 +1,11 @@
 -- Stages narrowed one by one: the first i are narrowed, and those behind them are as they were.
 use Prim.Native.Nat.{ℕ, zero, suc, _+_, _≤_, _<_}
-use mathlib.Core.Bool.{Bool, true, false, not, _&&_, _||_, cond, true≢false}
-use mathlib.Core.Path.{_≡_, refl, ap, sym, _∙_}
+use mathlib.Core.Bool.{Bool, true, false, _||_, cond, true≢false}
+use mathlib.Core.Path.{_≡_, refl, ap}
 use mathlib.Core.List.{List, [], _∷_, map}
 use native.Mathlib.Omega.{arith}
 use native.Mathlib.Numerals.{add-one}
-use lib.ListN.{length, getD, set, drop, length-map, drop-of-length-le}
-use lib.Seq.{drop-cons}
+use lib.ListN.{length, getD, set, length-map}
 use Rattle.combiners.specs.Codes.{preModulate}
 use Rattle.combiners.specs.Combiners.{threeOperands}
 use Rattle.cascade.specs.Effective.{narrowOp, narrowStage, effectiveStages, anyOfThree, effective}
@@ -36,27 +35,6 @@ stored (suc i) (s ∷ r) d h = ap (λ (l : List Stage). narrowStage s ∷ l) (st
 pub next-stored : (l : List Stage) (i : ℕ) (d : Stage) → i < length l → set (narrowed i l) i (narrowStage (getD l i d)) ≡ narrowed (i + 1) l
 next-stored l i d h = rw add-one (stored i l d h)
 
--- the search for an op of three operands has passed one more stage
-pub next-asked : (l : List Stage) (i : ℕ) (d : Stage) (found : Bool) → i < length l
-    → ((threeOperands (getD l i d .colour .op) || threeOperands (getD l i d .alpha .op)) || found) || anyOfThree (drop (i + 1) l)
-    ≡ found || anyOfThree (drop i l)
-unfolding anyOfThree
-next-asked l i d found h =
-    rw (add-one, drop-cons l i d h) (swap (threeOperands (getD l i d .colour .op) || threeOperands (getD l i d .alpha .op)) found _)
-  where
-    swap : (a b c : Bool) → ((a || b) || c) ≡ (b || (a || c))
-    swap true true c = refl
-    swap true false c = refl
-    swap false b c = refl
-
-pub all-asked : (l : List Stage) (i : ℕ) (found : Bool) → length l ≤ i → found || anyOfThree (drop i l) ≡ anyOfThree l → found ≡ anyOfThree l
-unfolding anyOfThree
-all-asked l i found h e = sym (or-false found) ∙ (rw (drop-of-length-le l h) at e)
-  where
-    or-false : (b : Bool) → (b || false) ≡ b
-    or-false true = refl
-    or-false false = refl
-
 narrow-flags : (l : List Stage) → stageFlagsBad (map narrowStage l) ≡ stageFlagsBad l
 unfolding stageFlagsBad
 narrow-flags [] = refl
@@ -71,39 +49,33 @@ effective-length k = go (k .wide)
     go true = refl
     go false = length-map (k .stages) narrowStage
 
--- Stages without an op of three operands are narrow, and narrow stages have none.
-narrow-op : (o : ℕ) → threeOperands (narrowOp o) ≡ false
+pub narrow-op : (o : ℕ) → threeOperands (narrowOp o) ≡ false
 narrow-op o = go (threeOperands o) refl
   where
     go : (b : Bool) → threeOperands o ≡ b → threeOperands (cond b preModulate o) ≡ false
     go true e = refl
     go false e = e
 
+narrow-twice : (l : List Stage) → map narrowStage (map narrowStage l) ≡ map narrowStage l
+narrow-twice [] = refl
+narrow-twice (s ∷ r) = rw (narrow-op (s .colour .op), narrow-op (s .alpha .op), narrow-twice r)
+
+-- without an op of three operands the stages of a key of kind 1 take effect as they are
 narrow-alike : (l : List Stage) → anyOfThree l ≡ false → map narrowStage l ≡ l
 unfolding anyOfThree
 narrow-alike [] e = refl
 narrow-alike (s ∷ r) e =
-    let h = either-false (threeOperands (s .colour .op) || threeOperands (s .alpha .op)) _ e in
-    let n = either-false (threeOperands (s .colour .op)) (threeOperands (s .alpha .op)) (h .0) in
+    let h = neither-of (threeOperands (s .colour .op) || threeOperands (s .alpha .op)) _ e in
+    let n = neither-of (threeOperands (s .colour .op)) (threeOperands (s .alpha .op)) (h .0) in
     rw (n .0, n .1, narrow-alike r (h .1))
   where
-    either-false : (a b : Bool) → (a || b) ≡ false → (a ≡ false) × (b ≡ false)
-    either-false true b e = absurd (true≢false e)
-    either-false false b e = (refl, e)
+    neither-of : (a b : Bool) → (a || b) ≡ false → (a ≡ false) × (b ≡ false)
+    neither-of true b e = absurd (true≢false e)
+    neither-of false b e = (refl, e)
 
-narrow-none : (l : List Stage) → anyOfThree (map narrowStage l) ≡ false
-unfolding anyOfThree
-narrow-none [] = refl
-narrow-none (s ∷ r) = rw (narrow-op (s .colour .op), narrow-op (s .alpha .op), narrow-none r)
-
--- without an op of three operands, and in a key of kind 6, the stages take effect as they are
-pub effective-alike : (k : Key) → not (k .wide) && anyOfThree (k .stages) ≡ false → effectiveStages k ≡ k .stages
+pub effective-alike : (k : Key) → k .wide ≡ false → anyOfThree (k .stages) ≡ false → effectiveStages k ≡ k .stages
 unfolding effectiveStages
-effective-alike k e = go (k .wide) e
-  where
-    go : (wide : Bool) → not wide && anyOfThree (k .stages) ≡ false → cond wide (k .stages) (map narrowStage (k .stages)) ≡ k .stages
-    go true e = refl
-    go false e = narrow-alike (k .stages) e
+effective-alike k w e = rw w (narrow-alike (k .stages) e)
 
 -- what takes effect takes effect as it is
 pub effective-twice : (k : Key) → effectiveStages (effective k) ≡ effectiveStages k
@@ -113,7 +85,7 @@ effective-twice k = go (k .wide)
     go : (wide : Bool) → cond wide (cond wide (k .stages) (map narrowStage (k .stages))) (map narrowStage (cond wide (k .stages) (map narrowStage (k .stages))))
         ≡ cond wide (k .stages) (map narrowStage (k .stages))
     go true = refl
-    go false = narrow-alike (map narrowStage (k .stages)) (narrow-none (k .stages))
+    go false = narrow-twice (k .stages)
 
 pub effective-flags : (k : Key) → stageFlagsBad (effectiveStages k) ≡ stageFlagsBad (k .stages)
 unfolding effectiveStages

@@ -5,9 +5,7 @@ use values::Combiner;
 use values::Key;
 use values::Stage;
 ghost use mathlib.Core.Path.{_≡_};
-ghost use mathlib.Core.Bool.{_||_};
-ghost use Rattle.combiners.specs.Combiners.{threeOperands};
-ghost use Rattle.cascade.specs.Effective.{narrowOp, narrowCombiner, narrowStage, effectiveStages, anyOfThree, effective};
+ghost use Rattle.cascade.specs.Effective.{narrowOp, narrowCombiner, narrowStage, effectiveStages, effective};
 
 const STAGES: usize = 8;
 
@@ -31,7 +29,7 @@ fn narrow_combiner(c: Combiner) -> Combiner
     }
 }
 
-fn narrow_stage(s: Stage) -> Stage
+pub fn narrow_stage(s: Stage) -> Stage
     ensures { λ r. ⌜ r ≡ narrowStage s ⌝ }
 {
     let colour = narrow_combiner(s.colour);
@@ -41,28 +39,6 @@ fn narrow_stage(s: Stage) -> Stage
         alpha: alpha,
         flags: s.flags,
     }
-}
-
-fn has_three_operands(s: Stage) -> bool
-    ensures { λ r. ⌜ r ≡ threeOperands (s .colour .op) || threeOperands (s .alpha .op) ⌝ }
-{
-    let c = s.colour;
-    let a = s.alpha;
-    three_operands(c.op) | three_operands(a.op)
-}
-
-// Some op of the key is of three operands. Without one its stages take effect as they are.
-pub fn any_of_three(k: Key) -> bool
-    ensures { λ r. ⌜ r ≡ anyOfThree (k .stages) ⌝ }
-{
-    let mut found = false;
-    let mut i = 0;
-    while i < STAGES {
-        let s = k.stages[i];
-        found = has_three_operands(s) | found;
-        i += 1;
-    }
-    found
 }
 
 fn effective_stages(k: Key) -> [Stage; 8]

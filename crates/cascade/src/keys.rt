@@ -66,13 +66,13 @@ pub(crate) fn selects(selector: u8, arg: u8) -> bool
 }
 
 // Argument 0 selects it, of an op that has one.
-pub(crate) fn third_selects(selector: u8, c: Combiner) -> bool
+fn third_selects(selector: u8, c: Combiner) -> bool
     ensures { λ r. ⌜ r ≡ third (selects selector) c ⌝ }
 {
     three_operands(c.op) & selects(selector, c.arg0)
 }
 
-fn some_selects(selector: u8, c: Combiner) -> bool
+pub(crate) fn some_selects(selector: u8, c: Combiner) -> bool
     ensures { λ r. ⌜ r ≡ some (selects selector) c ⌝ }
 {
     selects(selector, c.arg1) | (selects(selector, c.arg2) | third_selects(selector, c))
@@ -81,13 +81,15 @@ fn some_selects(selector: u8, c: Combiner) -> bool
 fn reads(selector: u8, c: Combiner) -> bool
     ensures { λ r. ⌜ r ≡ reads selector c ⌝ }
 {
+    if three_operands(c.op) {
+        return some_selects(selector, c);
+    }
     let first = selects(selector, c.arg1);
     let second = selects(selector, c.arg2);
-    let third = third_selects(selector, c);
-    if !(first | (second | third)) {
+    if !(first | second) {
         return false;
     }
-    (reads_first(c.op) & first) | ((reads_second(c.op) & second) | third)
+    (reads_first(c.op) & first) | (reads_second(c.op) & second)
 }
 
 pub(crate) fn falls_back(textured: bool, c: Combiner) -> bool

@@ -11,9 +11,8 @@ use crate::reading::is_lined;
 use crate::reading::is_luminance;
 use crate::reading::reads_temp;
 use crate::reading::reads_texel;
-use crate::warnings::warns_modifier;
+use crate::warnings::warned;
 use crate::warnings::warns_op;
-use crate::warnings::warns_selector;
 use values::Key;
 use values::Stage;
 ghost use Prim.Native.Nat.{_<_, _≤_, _+_, _*_};
@@ -89,14 +88,15 @@ fn add_fact(f: Facts, s: Stage, i: u8) -> Facts
             modifier: in_front(false, f.modifier),
         };
     }
+    let w = warned(s);
     Facts {
         mask: in_front(textured(s), f.mask),
         constant: last_constant(f.constant, s, i),
         factor: names_factor(s) | f.factor,
         live: (!is_bump(s) & reads_temp(s)) | f.live,
-        op: in_front(warns_op(s), f.op),
-        selector: in_front(warns_selector(s), f.selector),
-        modifier: in_front(warns_modifier(s), f.modifier),
+        op: in_front(w.op, f.op),
+        selector: in_front(w.selector, f.selector),
+        modifier: in_front(w.modifier, f.modifier),
     }
 }
 

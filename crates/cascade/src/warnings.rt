@@ -45,13 +45,6 @@ fn applies_alpha(s: Stage) -> bool
     !is_bump(s) & (alpha_written(s) & !falls_back(textured(s), a))
 }
 
-// A cause that a combiner gives counts where the stage applies that combiner.
-fn counts(s: Stage, colour: bool, alpha: bool) -> bool
-    ensures { λ r. ⌜ r ≡ (appliesColour s && colour) || (appliesAlpha s && alpha) ⌝ }
-{
-    (applies_colour(s) & colour) | (applies_alpha(s) & alpha)
-}
-
 pub(crate) fn warns_op(s: Stage) -> bool
     ensures { λ r. ⌜ r ≡ warns opCause s ⌝ }
 {
@@ -62,27 +55,47 @@ pub(crate) fn warns_op(s: Stage) -> bool
     if !(colour | alpha) {
         return false;
     }
-    counts(s, colour, alpha)
+    (applies_colour(s) & colour) | (applies_alpha(s) & alpha)
 }
 
-pub(crate) fn warns_selector(s: Stage) -> bool
-    ensures { λ r. ⌜ r ≡ warns selectorCause s ⌝ }
-{
-    let colour = selector_cause(s.colour);
-    let alpha = selector_cause(s.alpha);
-    if !(colour | alpha) {
-        return false;
-    }
-    counts(s, colour, alpha)
+// Of which of the three causes: that a combiner gives, or that a stage warns of.
+pub(crate) struct Causes {
+    pub(crate) op: bool,
+    pub(crate) selector: bool,
+    pub(crate) modifier: bool,
 }
 
-pub(crate) fn warns_modifier(s: Stage) -> bool
-    ensures { λ r. ⌜ r ≡ warns modifierCause s ⌝ }
+fn causes_of(c: Combiner) -> Causes
+    ensures { λ r. ⌜ (r .op ≡ gives opCause c) × ((r .selector ≡ gives selectorCause c) × (r .modifier ≡ gives modifierCause c)) ⌝ }
 {
-    let colour = modifier_cause(s.colour);
-    let alpha = modifier_cause(s.alpha);
-    if !(colour | alpha) {
-        return false;
+    let op = without_text(c.op);
+    let selector = selector_cause(c);
+    let modifier = modifier_cause(c);
+    Causes {
+        op: op,
+        selector: selector,
+        modifier: modifier,
     }
-    counts(s, colour, alpha)
+}
+
+// A cause that a combiner gives counts where the stage applies that combiner.
+pub(crate) fn warned(s: Stage) -> Causes
+    ensures { λ r. ⌜ (r .op ≡ warns opCause s) × ((r .selector ≡ warns selectorCause s) × (r .modifier ≡ warns modifierCause s)) ⌝ }
+{
+    let c = causes_of(s.colour);
+    let a = causes_of(s.alpha);
+    if !((c.op | (c.selector | c.modifier)) | (a.op | (a.selector | a.modifier))) {
+        return Causes {
+            op: false,
+            selector: false,
+            modifier: false,
+        };
+    }
+    let colour = applies_colour(s);
+    let alpha = applies_alpha(s);
+    Causes {
+        op: (colour & c.op) | (alpha & a.op),
+        selector: (colour & c.selector) | (alpha & a.selector),
+        modifier: (colour & c.modifier) | (alpha & a.modifier),
+    }
 }

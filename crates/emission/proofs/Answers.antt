@@ -15,8 +15,7 @@ use Rattle.text.specs.Text.{raw, flat}
 use Rattle.text.specs.Buffer.{Wrote}
 use Rattle.text.proofs.Laws.{whole}
 use Rattle.cascade.specs.Keys.{active}
-use Rattle.cascade.specs.Effective.{effectiveStages, effective}
-use Rattle.cascade.proofs.Narrowing.{effective-twice, effective-flags}
+use Rattle.cascade.specs.Effective.{effectiveStages}
 use Rattle.cascade.specs.Reading.{lookupsOf}
 use Rattle.cascade.specs.Survey.{surveyOf}
 use Rattle.values.specs.declared.Key.{Key}
@@ -27,7 +26,7 @@ use Rattle.values.specs.Entries.{entryGood}
 use Rattle.values.specs.Words.{entryReserved}
 use Rattle.values.specs.Admitted.{Admitted}
 use Rattle.shader.specs.Results.{textOf, inFront, bufferAfter, alphaWarning, emittedOf, answerOf, answerNumber, emissionNumber}
-use Rattle.shader.specs.Demand.{Demand3, Demanded}
+use Rattle.shader.specs.Demand.{Demands, Demanded}
 use Rattle.values.specs.declared.Variant.{Variant}
 use Rattle.values.specs.declared.Entry.{Entry}
 use Rattle.values.specs.declared.Emitted.{Emitted}
@@ -98,9 +97,9 @@ pub accepted : (k : Key) (v : Variant) (e : Entry) (u : Survey) (at lookups : �
 unfolding surveyOf
 accepted k v e u at lookups he hu ha hl = rw (hl, ha, hu, he)
 
--- Demand 3 holds of the answer and of the bytes that the buffer then holds.
+-- What is demanded of names holds of the answer and of the bytes that the buffer then holds.
 module _ (k : Key) (v : Variant) (e : Entry) (out out′ : List ℕ) (l : length (k .stages) ≤ 8) (h : Admitted k v e) where
-  in-the-buffer : (m : Emitted) → m ≡ emittedOf k v e → out′ ≡ inFront (textOf k v e) out → Demand3 k (take (m .length) out′) m
+  in-the-buffer : (m : Emitted) → m ≡ emittedOf k v e → out′ ≡ inFront (textOf k v e) out → Demands k (take (m .length) out′) m
   in-the-buffer m hm ho =
       rw (hm, ho, take-at (textOf k v e) (drop (length (textOf k v e)) out) _ refl) (demand k v e l (subst T (sym (h .entryName)) tt))
 
@@ -114,16 +113,3 @@ module _ (k : Key) (v : Variant) (e : Entry) (out out′ : List ℕ) (l : length
 pub effective-whole : (k : Key) (v : Variant) (e : Entry) → effectiveStages k ≡ k .stages → flat (wholeText k v e) ≡ textOf k v e
 unfolding wholeText bodyText
 effective-whole k v e h = rw h
-
--- The stages that take effect are those of the key that takes effect, so it is answered and written alike.
-module _ (k : Key) (v : Variant) (e : Entry) where
-  pub effective-admitted : Admitted k v e → Admitted (effective k) v e
-  effective-admitted h =
-      record { stageFlags = effective-flags k ∙ h .stageFlags; variantFlags = h .variantFlags; entryName = h .entryName; entryWord = h .entryWord }
-
-  pub effective-text : textOf (effective k) v e ≡ textOf k v e
-  effective-text = rw (effective-twice k)
-
-  pub effective-answer : (room : ℕ) → answerOf (effective k) v e room ≡ answerOf k v e room
-  unfolding answerOf
-  effective-answer room = rw (effective-flags k, effective-twice k)

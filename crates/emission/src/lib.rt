@@ -1,6 +1,5 @@
 //! Emission from values: a key, a variant and an entry to Metal text in a lent buffer.
 use cascade::Survey;
-use cascade::effective::any_of_three;
 use cascade::effective::effective;
 use cascade::walks::survey;
 use function::Place;
@@ -53,11 +52,14 @@ fn put_text(out: &mut [u8], k: Key, v: Variant, e: Entry, u: Survey) -> Place
     w
 }
 
-// Emission from admitted values, of a key whose stages take effect as they are.
-fn emit_effective(key: Key, variant: Variant, entry: Entry, out: &mut [u8]) -> Answer
+// Writes the text of values that are free of the causes 3, 5, 6 and 13, of a key whose stages take effect as they are, to the front of out. Neither is
+// looked at again.
+pub fn emit_checked(key: Key, variant: Variant, entry: Entry, out: &mut [u8]) -> Answer
     requires { ⌜ (effectiveStages key ≡ key .stages) × Admitted key variant entry ⌝ }
     ensures answer { λ r. ⌜ r ≡ answerOf key variant entry (length (now (out .entry))) ⌝ }
     ensures buffer { λ r. ⌜ now (out .exit) ≡ bufferAfter r (textOf key variant entry) (now (out .entry)) ⌝ }
+    ensures names { λ r. ⌜ Demanded key r (now (out .exit)) ⌝ }
+    ensures number { λ r. ⌜ answerNumber r ≡ emissionNumber key variant entry (length (now (out .entry))) ⌝ }
 {
     let u = survey(key);
     let written = put_text(out, key, variant, entry, u);
@@ -74,22 +76,6 @@ fn emit_effective(key: Key, variant: Variant, entry: Entry, out: &mut [u8]) -> A
         modifier_warnings: u.modifier_warnings,
         alpha_warning: ALWAYS < variant.alpha_func,
     })
-}
-
-// Writes the text of values that are free of the causes 3, 5, 6 and 13 to the front of out, without checking them again. Few keys of kind 1 have an
-// op of three operands, so the others go on without a copy of their stages.
-pub fn emit_checked(key: Key, variant: Variant, entry: Entry, out: &mut [u8]) -> Answer
-    requires { ⌜ Admitted key variant entry ⌝ }
-    ensures answer { λ r. ⌜ r ≡ answerOf key variant entry (length (now (out .entry))) ⌝ }
-    ensures buffer { λ r. ⌜ now (out .exit) ≡ bufferAfter r (textOf key variant entry) (now (out .entry)) ⌝ }
-    ensures names { λ r. ⌜ Demanded key r (now (out .exit)) ⌝ }
-    ensures number { λ r. ⌜ answerNumber r ≡ emissionNumber key variant entry (length (now (out .entry))) ⌝ }
-{
-    if !key.wide & any_of_three(key) {
-        let k = effective(key);
-        return emit_effective(k, variant, entry, out);
-    }
-    emit_effective(key, variant, entry, out)
 }
 
 // Writes the text of a key, a variant and an entry to the front of out; bytes behind it stay. A refusal leaves out as it was.
@@ -111,7 +97,8 @@ pub fn emit(key: Key, variant: Variant, entry: Entry, out: &mut [u8]) -> Answer
     if admission::entry_reserved(entry) {
         return Answer::Refused(Refusal::ReservedWord);
     }
-    emit_checked(key, variant, entry, out)
+    let k = effective(key);
+    emit_checked(k, variant, entry, out)
 }
 
 // The number of an answer: 0 for a text.

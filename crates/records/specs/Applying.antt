@@ -95,11 +95,11 @@ textAfter (Refused c) h out = out
 abbrev pub applied : Held → List ℕ → ℕ → Applied
 applied h b room = record { answer = applyAnswer h b room; held = heldAfter (applyAnswer h b room) (readRecord b .found) h }
 
--- demand 3 of an accepted emit record, and of the bytes that the buffer then holds, is that of emission
-abbrev pub AppliedDemand3 : Held → ApplyAnswer → List ℕ → Type 0
-AppliedDemand3 h (Replaced n) out = Unit {0}
-AppliedDemand3 h (Text n e) out = Demanded (h .key) (emission-answer.Text e) out
-AppliedDemand3 h (Refused c) out = Unit {0}
+-- what is demanded of the names of an accepted emit record, and of the bytes that the buffer then holds, is what emission promises
+abbrev pub AppliedDemands : Held → ApplyAnswer → List ℕ → Type 0
+AppliedDemands h (Replaced n) out = Unit {0}
+AppliedDemands h (Text n e) out = Demanded (h .key) (emission-answer.Text e) out
+AppliedDemands h (Refused c) out = Unit {0}
 
 -- The numbers of 01's table.
 

@@ -14,7 +14,7 @@ use wire::make::blank_record;
 use wire::reader::read;
 ghost use mathlib.Core.Path.{_≡_};
 ghost use lib.ListN.{length};
-ghost use Rattle.records.specs.Applying.{AppliedDemand3, applied, appliedNumber, applyAs, applyNumber, emitNumber, holding, holdsAll, keyOrDefaults, nothingHeld, textAfter};
+ghost use Rattle.records.specs.Applying.{AppliedDemands, applied, appliedNumber, applyAs, applyNumber, emitNumber, holding, holdsAll, keyOrDefaults, nothingHeld, textAfter};
 
 // The held values, each there or not.
 pub struct Held {
@@ -113,7 +113,7 @@ fn holds_all(held: Held) -> bool
 fn emit_held(held: Held, n: usize, text: &mut [u8]) -> ApplyAnswer
     ensures answer { λ r. ⌜ r ≡ applyAs Kind.Emit n held (length (now (text .entry))) ⌝ }
     ensures buffer { λ r. ⌜ now (text .exit) ≡ textAfter r held (now (text .entry)) ⌝ }
-    ensures names { λ r. ⌜ AppliedDemand3 held r (now (text .exit)) ⌝ }
+    ensures names { λ r. ⌜ AppliedDemands held r (now (text .exit)) ⌝ }
     ensures number { λ r. ⌜ applyNumber r ≡ emitNumber held (length (now (text .entry))) ⌝ }
 {
     let key = held.key;
@@ -132,7 +132,7 @@ fn emit_held(held: Held, n: usize, text: &mut [u8]) -> ApplyAnswer
 pub fn apply(held: Held, bytes: &[u8], text: &mut [u8]) -> Applied
     ensures answer { λ r. ⌜ r ≡ applied held (now (bytes .entry)) (length (now (text .entry))) ⌝ }
     ensures buffer { λ r. ⌜ now (text .exit) ≡ textAfter (r .answer) held (now (text .entry)) ⌝ }
-    ensures names { λ r. ⌜ AppliedDemand3 held (r .answer) (now (text .exit)) ⌝ }
+    ensures names { λ r. ⌜ AppliedDemands held (r .answer) (now (text .exit)) ⌝ }
     ensures number { λ r. ⌜ applyNumber (r .answer) ≡ appliedNumber held (now (bytes .entry)) (length (now (text .entry))) ⌝ }
 {
     let reading = read(bytes);

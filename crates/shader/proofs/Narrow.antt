@@ -5,14 +5,15 @@ use mathlib.Core.Bool.{Bool, true, false, not, _||_, cond}
 use mathlib.Core.Path.{_≡_, refl, ap, _∙_}
 use mathlib.Core.List.{List, [], _∷_, map}
 use lib.Dec.{T, eqb}
-use Rattle.combiners.specs.Codes.{disable, preModulate}
+use Rattle.combiners.specs.Codes.{disable}
 use Rattle.combiners.specs.Combiners.{threeOperands}
 use Rattle.combiners.specs.Warnings.{Cause, opCause, selectorCause, modifierCause, appliedReports}
 use Rattle.cascade.specs.Keys.{active, stagesWhere, reads, fallsBack, bump, alphaFromColour, maskOf, readsConstant, namesFactor, lastConstant, anyFactor, rowsOf}
-use Rattle.cascade.specs.Effective.{narrowOp, narrowStage, effectiveStages, anyOfThree, activeStages, effective}
+use Rattle.cascade.specs.Effective.{narrowStage, effectiveStages, anyOfThree, activeStages, effective}
 use Rattle.cascade.specs.Stages.{expressionOf, alphaOf, decode}
 use Rattle.cascade.specs.Reading.{keeps, alphaWritten, readsTemp, readsTexel, live, lined, marked, lookupsOf, readsBumpEnv}
 use Rattle.cascade.specs.Warnings.{appliesColour, appliesAlpha, reportsFrom, warnedStages}
+use Rattle.cascade.proofs.Narrowing.{narrow-op}
 use Rattle.cascade.specs.declared.Decoded.{Decoded}
 use Rattle.cascade.specs.declared.Decoded.the-variants.{Writes, Bump}
 use Rattle.values.specs.Flags.{stageFlagsBad}
@@ -203,13 +204,6 @@ module _ (k : Key) (e : effectiveStages (narrow k) ≡ map sevenBytes (effective
   unfolding answerOf
   answer-tie v n room = rw (flags-alike (k .stages), emitted-tie v n, text-tie v n)
 
-narrow-op : (o : ℕ) → threeOperands (narrowOp o) ≡ false
-narrow-op o = go (threeOperands o) refl
-  where
-    go : (b : Bool) → threeOperands o ≡ b → threeOperands (cond b preModulate o) ≡ false
-    go true e = refl
-    go false e = e
-
 narrow-of-two : (l : List Stage) → AllOfTwo (map narrowStage l)
 narrow-of-two [] = tt
 narrow-of-two (s ∷ r) = (narrow-op (s .colour .op), narrow-op (s .alpha .op), narrow-of-two r)
@@ -234,6 +228,9 @@ module _ (k : Key) (w : k .wide ≡ false) where
 
   pub kind-one-text : (v : Variant) (n : Entry) → textOf (narrow k) v n ≡ textOf k v n
   kind-one-text = text-tie k kind-one kind-one-of-two
+
+  pub kind-one-emitted : (v : Variant) (n : Entry) → emittedOf (narrow k) v n ≡ emittedOf k v n
+  kind-one-emitted = emitted-tie k kind-one kind-one-of-two
 
   pub kind-one-answer : (v : Variant) (n : Entry) (room : ℕ) → answerOf (narrow k) v n room ≡ answerOf k v n room
   kind-one-answer = answer-tie k kind-one kind-one-of-two

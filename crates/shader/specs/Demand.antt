@@ -2,7 +2,7 @@
 -- 01: "Lookups in the result are the emitter's own count, one for each lookup that it wrote." Here that count is held to the text, to the reading
 -- rule and to the mask.
 use Prim.Native.Nat.{ℕ, zero, suc, _+_, _/_, _%_, _≤_, _<_}
-use mathlib.Core.Bool.{Bool, _&&_, cond}
+use mathlib.Core.Bool.{Bool, cond}
 use mathlib.Core.Path.{_≡_}
 use mathlib.Core.List.{List, [], _∷_, _++_}
 use lib.Dec.{eqb}
@@ -10,14 +10,12 @@ use lib.ListN.{take}
 use Rattle.cascade.specs.Effective.{activeStages}
 use Rattle.cascade.specs.Reading.{live, lookupsOf}
 use Rattle.values.specs.Listed.{Name, name}
-use Rattle.shader.specs.Names.{Occurrence, declaration, usage, row, occurrences}
+use Rattle.shader.specs.Names.{sameName, Occurrence, declaration, usage, row, occurrences}
+use Rattle.shader.specs.Idle.{NoIdle}
 use Rattle.values.specs.declared.Key.{Key}
 use Rattle.values.specs.declared.Emitted.{Emitted}
 use Rattle.values.specs.declared.Answer.{Answer}
 use Rattle.values.specs.declared.Answer.the-variants.{Text, Refused}
-
-abbrev pub sameName : Name → Name → Bool
-sameName (name k i) (name m j) = eqb k m && eqb i j
 
 -- how often a name is declared
 abbrev pub declared : Name → List Occurrence → ℕ
@@ -60,7 +58,12 @@ pub record Demand3 (key : Key) (text : List ℕ) (m : Emitted) : Type 0 where
   -- and no more than the mask's bits
   pub lookupsMasked : m .lookups ≤ setBits 8 (m .mask)
 
--- demand 3 of an answer and the bytes that the buffer then holds: a refusal wrote no text
+-- what is demanded of the names of a text: demand 3, and that none of its locals is idle
+pub record Demands (key : Key) (text : List ℕ) (m : Emitted) : Type 0 where
+  pub demand3 : Demand3 key text m
+  pub noIdle : NoIdle text
+
+-- of an answer and the bytes that the buffer then holds: a refusal wrote no text
 abbrev pub Demanded : Key → Answer → List ℕ → Type 0
 Demanded key (Refused r) out = Unit {0}
-Demanded key (Text m) out = Demand3 key (take (m .length) out) m
+Demanded key (Text m) out = Demands key (take (m .length) out) m

@@ -4,5 +4,6 @@ pub mod Whole
 pub mod Results
 pub mod Order
 pub mod Names
+pub mod Idle
 pub mod Demand
 pub mod Worked

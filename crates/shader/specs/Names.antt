@@ -10,7 +10,7 @@ use lib.ListN.{getD}
 use Rattle.text.specs.Text.{bytes}
 use Rattle.text.specs.Format.{same}
 use Rattle.values.specs.Entries.{isDigit, continuesName}
-use Rattle.values.specs.Listed.{Name, listed}
+use Rattle.values.specs.Listed.{Name, name, listed}
 
 -- 01: "a longest run of ASCII letters, digits and underscores"; any other byte is a mark
 pub data Token : Type 0 where
@@ -63,6 +63,9 @@ followsType (s ∷ r) before = follows (bytes s ++ bytes " ") before || followsT
 -- 01: "A declaration is a listed name after a type and one space, or after `float4 *` or `float &`"
 abbrev pub declares : List Token → Bool
 declares before = followsType types before || (follows (bytes "float4 *") before || follows (bytes "float &") before)
+
+abbrev pub sameName : Name → Name → Bool
+sameName (name k i) (name m j) = eqb k m && eqb i j
 
 -- What is found of the listed names.
 pub data Occurrence : Type 0 where

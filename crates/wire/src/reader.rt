@@ -51,7 +51,7 @@ const SPECULAR_AT: usize = 8 * STAGE_BYTES;
 const WIDE_SPECULAR_AT: usize = 8 * WIDE_STAGE_BYTES;
 
 // The stage whose seven bytes begin at a place. It has the default for its arguments 0.
-fn stage_at(body: &[u8], at: usize) -> Stage
+pub fn stage_at(body: &[u8], at: usize) -> Stage
     requires { ⌜ at + 7 ≤ length (now body) ⌝ }
     ensures { λ r. ⌜ r ≡ stageFromBytes false (drop at (now (body .entry))) ⌝ }
 {

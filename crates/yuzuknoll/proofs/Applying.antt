@@ -23,13 +23,18 @@ use Rattle.wire.specs.declared.Kind.{Kind}
 use Rattle.wire.specs.declared.Kind.the-variants as kind
 use Rattle.wire.proofs.Kind.{the-type}
 use Rattle.records.specs.Applying.{holdsAll, emitNumber, appliedNumber}
-use Rattle.yuzuknoll.specs.Lent.{after, recordNumbers, ReportedDemand3}
+use Rattle.yuzuknoll.specs.Lent.{after, recordNumbers, ReportedDemands}
 use Rattle.yuzuknoll.specs.Records.{kindIn}
 use Rattle.yuzuknoll.specs.Applying.{placeOf, roomOf, heldLength, heldByte, heldBody, isRecord, heldWide, heldOf}
 use Rattle.yuzuknoll.specs.Applying.{onEmit, partWith, heldWith, textWith, noResult, resultWith, appliedNumbers}
 use Rattle.yuzuknoll.proofs.Lent.{not-zero, left, first-refused, first-passed}
 use Rattle.yuzuknoll.proofs.Checking.{taken}
-use Rattle.yuzuknoll.proofs.Emitting.{Emits, admitted, body-free}
+use Rattle.emission.proofs.InPlace.{takes-place}
+use Rattle.cascade.specs.Effective.{effectiveStages}
+use Rattle.values.specs.Flags.{stageFlagsBad}
+use Rattle.yuzuknoll.specs.Raw.{inPlaceOf}
+use Rattle.yuzuknoll.proofs.Raw.{in-place}
+use Rattle.yuzuknoll.proofs.Emitting.{Emits, admitted, body-free, place-emits}
 
 -- eight numbers, one by one
 pub eight : (l : List ℕ) → length l ≡ 8
@@ -61,20 +66,25 @@ key-within false = omega arith
 pub key-fits : (wide : Bool) {n : ℕ} → roomOf kind.Key ≤ n → bodyLength (keyKind wide) ≤ n
 key-fits wide h = omega (arith, key-within wide)
 
+-- a held key is free of 3
+held-key-free : (held : List ℕ) → heldOf held .«has_key» ≡ true → stageFlagsBad (heldOf held .key .stages) ≡ false
+unfolding heldOf
+held-key-free held t =
+    body-free (heldWide held) (heldBody kind.Key held) (held-free (keyKind (heldWide held)) (heldByte kind.Key held) (heldBody kind.Key held) t)
+
 -- values read from bytes that hold all three
-module _ (held : List ℕ) {k : Key} {v : Variant} {e : Entry} (p : k ≡ heldOf held .key)
+module _ (held : List ℕ) {k : Key} {v : Variant} {e : Entry} (p : k ≡ inPlaceOf (heldWide held) (heldBody kind.Key held))
     (q : v ≡ variantFromBody (heldBody kind.Variant held)) (r : e ≡ entryFromBody (heldBody kind.Entry held)) where
-  pub held-admitted : holdsAll (heldOf held) ≡ true → Admitted k v e
+  pub held-admitted : holdsAll (heldOf held) ≡ true → (effectiveStages k ≡ k .stages) × Admitted k v e
   unfolding heldOf
   held-admitted t =
       let s = both (heldOf held .«has_key») (heldOf held .«has_variant» && heldOf held .«has_entry») t in
       let u = both (heldOf held .«has_variant») (heldOf held .«has_entry») (s .1) in
-      rw (p, q, r)
-      (admitted _
-      (body-free (heldWide held) (heldBody kind.Key held) (held-free (keyKind (heldWide held)) (heldByte kind.Key held) (heldBody kind.Key held) (s .0)))
-      (heldBody kind.Variant held) (heldBody kind.Entry held)
+      let free = held-key-free held (s .0) in
+      rw (q, r)
+      (takes-place (in-place (heldWide held) (heldBody kind.Key held) _ _) p (admitted (heldOf held .key) free (heldBody kind.Variant held) (heldBody kind.Entry held)
       (held-free kind.Variant (heldByte kind.Variant held) (heldBody kind.Variant held) (u .0))
-      (held-free kind.Entry (heldByte kind.Entry held) (heldBody kind.Entry held) (u .1)))
+      (held-free kind.Entry (heldByte kind.Entry held) (heldBody kind.Entry held) (u .1))))
 
 -- Emission from held bytes: its number, the text and the result that it leaves.
 module _ (held out res : List ℕ) where
@@ -82,7 +92,7 @@ module _ (held out res : List ℕ) where
   HeldEmits n out′ res′ =
       (n ≡ emitNumber (heldOf held) (length out))
       × ((out′ ≡ after n (textWith kind.Emit (heldOf held) out) out)
-      × ((res′ ≡ after n (resultWith kind.Emit (heldOf held)) res) × (n ≡ 0 → ReportedDemand3 (heldOf held .key) out′ res′)))
+      × ((res′ ≡ after n (resultWith kind.Emit (heldOf held)) res) × (n ≡ 0 → ReportedDemands (heldOf held .key) out′ res′)))
 
   module _ {all : Bool} (e : all ≡ holdsAll (heldOf held)) where
     pub too-early : {n : ℕ} → all ≡ false → n ≡ 7 → HeldEmits n out res
@@ -91,11 +101,13 @@ module _ (held out res : List ℕ) where
         let h : n ≡ 0 → ⊥ = λ z. not-zero EmitTooEarly (sym q ∙ z) in
         (rw (sym e ∙ f) q, (left _ out h, (left _ res h, λ z. absurd (h z))))
 
-    pub held-emitted : {n : ℕ} {out′ res′ : List ℕ} {k : Key} {v : Variant} {x : Entry} → all ≡ true → k ≡ heldOf held .key →
+    pub held-emitted : {n : ℕ} {out′ res′ : List ℕ} {k : Key} {v : Variant} {x : Entry} → all ≡ true → k ≡ inPlaceOf (heldWide held) (heldBody kind.Key held) →
         v ≡ variantFromBody (heldBody kind.Variant held) → x ≡ entryFromBody (heldBody kind.Entry held) → Emits k v x out res n out′ res′ →
         HeldEmits n out′ res′
     unfolding heldOf emitNumber textWith resultWith
-    held-emitted t p q r s = let y = rw (p, q, r) at s in (rw (sym e ∙ t) (y .0), y .1)
+    held-emitted t p q r s =
+        let y = place-emits (in-place (heldWide held) (heldBody kind.Key held) _ _) out res (rw (p, q, r) at s) in
+        (rw (sym e ∙ t) (y .0), y .1)
 
 -- a record laid over its part
 pub laid : (k : Kind) (held b : List ℕ) {n at at′ : ℕ} {held′ : List ℕ} → n ≡ recordLength k → at ≡ placeOf k → placeOf k + recordLength k ≤ length held →
@@ -108,7 +120,7 @@ module _ (held out apd : List ℕ) where
   EmitApplied n out′ apd′ =
       (n ≡ emitNumber (heldOf held) (length out))
       × ((out′ ≡ after n (textWith kind.Emit (heldOf held) out) out)
-      × ((apd′ ≡ after n (appliedNumbers kind.Emit (heldOf held)) apd) × (n ≡ 0 → ReportedDemand3 (heldOf held .key) out′ (drop 2 apd′))))
+      × ((apd′ ≡ after n (appliedNumbers kind.Emit (heldOf held)) apd) × (n ≡ 0 → ReportedDemands (heldOf held .key) out′ (drop 2 apd′))))
 
   module _ (res : List ℕ) {n : ℕ} {out′ res′ : List ℕ} (s : HeldEmits held out res n out′ res′) where
     pub emit-refused : (n ≡ 0 → ⊥) → EmitApplied n out′ apd
@@ -169,7 +181,7 @@ module _ (held b out apd : List ℕ) where
       × ((held′ ≡ after n (heldWith (kindIn b) b held) held)
       × ((out′ ≡ after n (textWith (kindIn b) (heldOf held) out) out)
       × ((apd′ ≡ after n (appliedNumbers (kindIn b) (heldOf held)) apd)
-      × (n ≡ 0 → kindIn b ≡ kind.Emit → ReportedDemand3 (heldOf held .key) out′ (drop 2 apd′)))))
+      × (n ≡ 0 → kindIn b ≡ kind.Emit → ReportedDemands (heldOf held .key) out′ (drop 2 apd′)))))
 
   pub apply-refused : {n : ℕ} → n ≡ recordNumber b → (n ≡ 0 → ⊥) → Applies n held out apd
   unfolding appliedNumber
@@ -182,7 +194,7 @@ module _ (held b out apd : List ℕ) where
 
     by-kind : {n : ℕ} {held′ out′ apd′ : List ℕ} → n ≡ onEmit k (emitNumber (heldOf held) (length out)) 0 → held′ ≡ after n (heldWith k b held) held →
         out′ ≡ after n (textWith k (heldOf held) out) out → apd′ ≡ after n (appliedNumbers k (heldOf held)) apd →
-        (n ≡ 0 → k ≡ kind.Emit → ReportedDemand3 (heldOf held .key) out′ (drop 2 apd′)) → Applies n held′ out′ apd′
+        (n ≡ 0 → k ≡ kind.Emit → ReportedDemands (heldOf held .key) out′ (drop 2 apd′)) → Applies n held′ out′ apd′
     by-kind p q r s t = (number p, (rw (← g) q, (rw (← g) r, (rw (← g) s, rw (← g) t))))
 
     pub apply-emitted : {n : ℕ} {out′ apd′ : List ℕ} → k ≡ kind.Emit → EmitApplied held out apd n out′ apd′ → Applies n held out′ apd′

@@ -1,6 +1,6 @@
 -- What emission promises of its answer, said by numbers; and that bodies without a cause stand for values that emission need not check.
 use Prim.Native.Nat.{ℕ}
-use mathlib.Core.Bool.{Bool, true, false, not, cond, true≢false}
+use mathlib.Core.Bool.{Bool, true, false, not, cond}
 use mathlib.Core.Path.{_≡_, refl, sym, ap, _∙_}
 use mathlib.Core.List.{List}
 use native.Mathlib.Omega.{arith}
@@ -21,12 +21,16 @@ use Rattle.values.specs.declared.Answer.{Answer}
 use Rattle.values.specs.declared.Answer.the-variants.{Text, Refused}
 use Rattle.shader.specs.Results.{emittedOf, textOf, answerOf, answerNumber, emissionNumber, bufferAfter}
 use Rattle.shader.specs.Demand.{Demanded}
+use Rattle.emission.proofs.InPlace.{InPlace, takes-place, place-number, place-demand}
+use Rattle.cascade.specs.Effective.{effectiveStages}
 use Rattle.wire.specs.Bodies.{keyKind, specularByte, keyFromBody, variantFromBody, entryFromBody}
 use Rattle.wire.specs.Reading.{bodyNumber}
 use Rattle.wire.specs.declared.Kind.the-variants as kind
-use Rattle.yuzuknoll.specs.Lent.{after, firstOf, atFront, resultNumbers, ReportedDemand3}
+use Rattle.yuzuknoll.specs.Raw.{inPlaceOf}
+use Rattle.yuzuknoll.specs.Lent.{after, firstOf, atFront, resultNumbers, ReportedDemands}
 use Rattle.yuzuknoll.specs.Emitting.{bodiesNumber, bodiesText, bodiesResult}
-use Rattle.yuzuknoll.proofs.Lent.{not-zero, left, first-refused, first-passed}
+use Rattle.yuzuknoll.proofs.Raw.{in-place}
+use Rattle.yuzuknoll.proofs.Lent.{not-zero, left, first-refused, first-passed, first-zero}
 
 -- yes as 1 and no as 0 tells which it was
 told : (b : Bool) → eqb (cond b 1 0) 1 ≡ b
@@ -39,7 +43,7 @@ module _ (k : Key) (v : Variant) (e : Entry) (out res : List ℕ) where
   Emits n out′ res′ =
       (n ≡ emissionNumber k v e (length out))
       × ((out′ ≡ after n (atFront (textOf k v e) out) out)
-      × ((res′ ≡ after n (resultNumbers (emittedOf k v e)) res) × (n ≡ 0 → ReportedDemand3 k out′ res′)))
+      × ((res′ ≡ after n (resultNumbers (emittedOf k v e)) res) × (n ≡ 0 → ReportedDemands k out′ res′)))
 
   -- emission's own promise
   abbrev Promise : Answer → List ℕ → Type 0
@@ -74,6 +78,14 @@ module _ (k : Key) (v : Variant) (e : Entry) (out res : List ℕ) where
       let p′ = rw g at p in
       (p′ .1 .1 .1, (p′ .1 .0, (q ∙ ap resultNumbers (accepted (sym (p′ .0))), λ z. rw (q, told) (p′ .1 .1 .0))))
 
+-- A key in the place of another is emitted as that one is.
+module _ {r k : Key} {v : Variant} {e : Entry} (p : InPlace r k v e) where
+  pub place-emits : (out res : List ℕ) {n : ℕ} {out′ res′ : List ℕ} → Emits r v e out res n out′ res′ → Emits k v e out res n out′ res′
+  place-emits out res {n} s =
+      let texts = ap (λ (t : List ℕ). after n (atFront t out) out) (p .sameText) in
+      let results = ap (λ (m : Emitted). after n (resultNumbers m) res) (p .sameEmitted) in
+      (s .0 ∙ place-number p (length out), (s .1 .0 ∙ texts, (s .1 .1 .0 ∙ results, λ z. place-demand p (s .1 .1 .1 z))))
+
 -- What the numbers of bodies tell of their values.
 
 abbrev ofKey : Bool → Bool → ℕ
@@ -85,27 +97,20 @@ ofVariant five = cond five 5 0
 abbrev ofEntry : Bool → Bool → ℕ
 ofEntry good word = cond good (cond word 13 0) 6
 
-key-bits : (three four : Bool) → ofKey three four ≡ 0 → three ≡ false
-key-bits true four e = absurd (omega arith)
-key-bits false four e = refl
+-- the first cause of the three bodies
+abbrev ofBodies : Bool → Bool → Bool → Bool → Bool → ℕ
+ofBodies three four five good word = firstOf (ofKey three four) (firstOf (ofVariant five) (ofEntry good word))
 
-variant-bits : (five : Bool) → ofVariant five ≡ 0 → five ≡ false
-variant-bits true e = absurd (omega arith)
-variant-bits false e = refl
-
-entry-bits : (good word : Bool) → ofEntry good word ≡ 0 → (good ≡ true) × (word ≡ false)
-entry-bits true false e = (refl, refl)
-entry-bits true true e = absurd (omega arith)
-entry-bits false word e = absurd (omega arith)
-
-table : (three five good word eight : Bool) → three ≡ false →
-    cond three 3 (cond five 5 (cond (not good) 6 (cond word 13 (cond eight 8 0))))
-    ≡ firstOf (ofVariant five) (firstOf (ofEntry good word) (cond eight 8 0))
-table true five good word eight e = absurd (true≢false e)
-table false true good word eight e = refl
-table false false true true eight e = refl
-table false false true false eight e = refl
-table false false false word eight e = refl
+-- emission's own causes stand behind the key's, and 8 behind all that the bodies have
+behind : (three four five good word eight : Bool) →
+    firstOf (ofKey three four) (cond three 3 (cond five 5 (cond (not good) 6 (cond word 13 (cond eight 8 0)))))
+    ≡ firstOf (ofBodies three four five good word) (cond eight 8 0)
+behind true four five good word eight = refl
+behind false true five good word eight = refl
+behind false false true good word eight = refl
+behind false false false true true eight = refl
+behind false false false true false eight = refl
+behind false false false false word eight = refl
 
 -- A key's number, of either kind, is told by its flags and its specular byte.
 module _ (wide : Bool) (k : List ℕ) where
@@ -120,62 +125,86 @@ unfolding bodyNumber
 key-cause true k = refl
 key-cause false k = refl
 
+key-bits : (three four : Bool) → ofKey three four ≡ 0 → three ≡ false
+key-bits true four e = absurd (omega arith)
+key-bits false four e = refl
+
+variant-bits : (five : Bool) → ofVariant five ≡ 0 → five ≡ false
+variant-bits true e = absurd (omega arith)
+variant-bits false e = refl
+
+entry-bits : (good word : Bool) → ofEntry good word ≡ 0 → (good ≡ true) × (word ≡ false)
+entry-bits true false e = (refl, refl)
+entry-bits true true e = absurd (omega arith)
+entry-bits false word e = absurd (omega arith)
+
+-- Bodies without a cause stand for values without one.
+
 pub body-free : (wide : Bool) (k : List ℕ) → bodyNumber (keyKind wide) k ≡ 0 → stageFlagsBad (keyFromBody wide k .stages) ≡ false
 body-free wide k p = key-bits (flagsBad wide k) (specularBad wide k) (sym (key-cause wide k) ∙ p)
 
--- Emission from a key that is free of 3, and from the bodies of a variant and an entry.
-module _ (key : Key) (free : stageFlagsBad (key .stages) ≡ false) (v e : List ℕ) where
+pub admitted : (key : Key) → stageFlagsBad (key .stages) ≡ false → (v e : List ℕ) → bodyNumber kind.Variant v ≡ 0 → bodyNumber kind.Entry e ≡ 0
+    → Admitted key (variantFromBody v) (entryFromBody e)
+unfolding bodyNumber
+admitted key free v e q r =
+    let named = entry-bits (entryGood (entryFromBody e)) (entryReserved (entryFromBody e)) r in
+    record {
+      stageFlags = free;
+      variantFlags = variant-bits (variantFlagsBad (variantFromBody v)) q;
+      entryName = named .0;
+      entryWord = named .1;
+    }
+
+-- Emission from three bodies.
+module _ (wide : Bool) (k v e : List ℕ) where
+  abbrev key : Key
+  key = keyFromBody wide k
+
   abbrev variant : Variant
   variant = variantFromBody v
 
   abbrev entry : Entry
   entry = entryFromBody e
 
-  pub admitted : bodyNumber kind.Variant v ≡ 0 → bodyNumber kind.Entry e ≡ 0 → Admitted key variant entry
-  unfolding bodyNumber
-  admitted q r =
-      record {
-        stageFlags = free;
-        variantFlags = variant-bits (variantFlagsBad variant) q;
-        entryName = entry-bits (entryGood entry) (entryReserved entry) r .0;
-        entryWord = entry-bits (entryGood entry) (entryReserved entry) r .1;
-      }
+  -- the causes that the bodies have by themselves, and the first of them
+  abbrev keyCause : ℕ
+  keyCause = bodyNumber (keyKind wide) k
 
-  -- emission's causes behind those of the key
-  behind-key : (room : ℕ) → emissionNumber key variant entry room
-      ≡ firstOf (bodyNumber kind.Variant v) (firstOf (bodyNumber kind.Entry e) (cond (ltb room (length (textOf key variant entry))) 8 0))
+  abbrev otherCause : ℕ
+  otherCause = firstOf (bodyNumber kind.Variant v) (bodyNumber kind.Entry e)
+
+  abbrev cause : ℕ
+  cause = firstOf keyCause otherCause
+
+  pub bodies-admitted : {key′ : Key} {variant′ : Variant} {entry′ : Entry} → cause ≡ 0 → key′ ≡ inPlaceOf wide k → variant′ ≡ variant → entry′ ≡ entry
+      → (effectiveStages key′ ≡ key′ .stages) × Admitted key′ variant′ entry′
+  bodies-admitted z f g h =
+      let t = first-zero keyCause otherCause z in
+      let u = first-zero (bodyNumber kind.Variant v) (bodyNumber kind.Entry e) (t .1) in
+      rw (g, h) (takes-place (in-place wide k variant entry) f (admitted key (body-free wide k (t .0)) v e (u .0) (u .1)))
+
+  number : (room : ℕ) → bodiesNumber wide k v e room ≡ firstOf cause (cond (ltb room (length (textOf key variant entry))) 8 0)
   unfolding bodyNumber emissionNumber
-  behind-key room =
-      table (stageFlagsBad (key .stages)) (variantFlagsBad variant) (entryGood entry) (entryReserved entry)
-      (ltb room (length (textOf key variant entry))) free
+  number room =
+      rw (key-cause wide k)
+      (behind (flagsBad wide k) (specularBad wide k) (variantFlagsBad variant) (entryGood entry) (entryReserved entry)
+      (ltb room (length (textOf key variant entry))))
 
   module _ (out res : List ℕ) where
-    refused : {n : ℕ} → n ≡ emissionNumber key variant entry (length out) → (n ≡ 0 → ⊥) → Emits key variant entry out res n out res
-    refused q h = (q, (left _ out h, (left _ res h, λ z. absurd (h z))))
+    abbrev Answered : ℕ → List ℕ → List ℕ → Type 0
+    Answered n out′ res′ =
+        (n ≡ bodiesNumber wide k v e (length out))
+        × ((out′ ≡ after n (atFront (bodiesText wide k v e) out) out)
+        × ((res′ ≡ after n (bodiesResult wide k v e) res) × (n ≡ 0 → ReportedDemands key out′ res′)))
 
-    pub parts-emitted : {n : ℕ} {out′ res′ : List ℕ} {v′ : Variant} {e′ : Entry} → v′ ≡ variant → e′ ≡ entry
-        → Emits key v′ e′ out res n out′ res′ → Emits key variant entry out res n out′ res′
-    parts-emitted g h s = rw (g, h) at s
+    module _ {a : ℕ} (p : a ≡ cause) where
+      pub bodies-refused : (a ≡ 0 → ⊥) → Answered a out res
+      bodies-refused h = (first-refused _ p h ∙ sym (number (length out)), (left _ out h, (left _ res h, λ z. absurd (h z))))
 
-    module _ {b : ℕ} (q : b ≡ bodyNumber kind.Variant v) where
-      pub variant-refused : (b ≡ 0 → ⊥) → Emits key variant entry out res b out res
-      variant-refused h = refused (first-refused _ q h ∙ sym (behind-key (length out))) h
-
-      pub entry-refused : {c : ℕ} → b ≡ 0 → c ≡ bodyNumber kind.Entry e → (c ≡ 0 → ⊥) → Emits key variant entry out res c out res
-      entry-refused y r h = refused (first-passed q y (first-refused _ r h) ∙ sym (behind-key (length out))) h
-
--- Emission from three bodies, of which the key's may have a cause.
-module _ (wide : Bool) (k v e out res : List ℕ) where
-  abbrev Answered : ℕ → List ℕ → List ℕ → Type 0
-  Answered n out′ res′ =
-      (n ≡ bodiesNumber wide k v e (length out))
-      × ((out′ ≡ after n (atFront (bodiesText wide k v e) out) out)
-      × ((res′ ≡ after n (bodiesResult wide k v e) res) × (n ≡ 0 → ReportedDemand3 (keyFromBody wide k) out′ res′)))
-
-  module _ {a : ℕ} (p : a ≡ bodyNumber (keyKind wide) k) where
-    pub key-refused : (a ≡ 0 → ⊥) → Answered a out res
-    key-refused h = (first-refused _ p h, (left _ out h, (left _ res h, λ z. absurd (h z))))
-
-    pub bodies-emitted : {n : ℕ} {out′ res′ : List ℕ} {key : Key} → a ≡ 0 → key ≡ keyFromBody wide k
-        → Emits key (variantFromBody v) (entryFromBody e) out res n out′ res′ → Answered n out′ res′
-    bodies-emitted z f s = let t = rw f at s in (first-passed p z (t .0), t .1)
+      -- where the bodies have no cause, emission answers what they answer
+      pub bodies-emitted : {n : ℕ} {out′ res′ : List ℕ} {key′ : Key} {variant′ : Variant} {entry′ : Entry} → a ≡ 0
+          → key′ ≡ inPlaceOf wide k → variant′ ≡ variant → entry′ ≡ entry
+          → Emits key′ variant′ entry′ out res n out′ res′ → Answered n out′ res′
+      bodies-emitted z f g h s =
+          let t = place-emits (in-place wide k variant entry) out res (rw (f, g, h) at s) in
+          (first-passed {n = keyCause} refl (first-zero keyCause otherCause (sym p ∙ z) .0) (t .0), t .1)

@@ -1,12 +1,13 @@
 -- A refusal's number is not 0, so that it leaves what is lent and no later number counts; numbers stored one by one fill their array, yes as 1.
 use Prim.Native.Nat.{ℕ, _≤_}
-use mathlib.Core.Bool.{Bool, true, false, cond}
-use mathlib.Core.Path.{_≡_, refl, _∙_}
+use mathlib.Core.Bool.{Bool, true, false, cond, true≢false}
+use mathlib.Core.Path.{_≡_, refl, sym, ap, _∙_}
 use mathlib.Core.List.{List, append-nil}
 use native.Mathlib.Nat.{zero-add}
 use native.Mathlib.Omega.{arith}
 use mir.Val.{boolByte}
-use borrow.Author.Tests.{ne-eqb}
+use borrow.Author.Tests.{ne-eqb, eqb-true}
+use lib.Dec.{eqb}
 use lib.ListN.{length, drop-of-length-le}
 use lib.Seq.{sets, sets-eq}
 use Rattle.values.specs.Refusals.{numberOf}
@@ -38,6 +39,13 @@ first-refused {n} b e h = rw (← e, ne-eqb n 0 h)
 
 pub first-passed : {n a b m : ℕ} → n ≡ a → n ≡ 0 → m ≡ b → m ≡ firstOf a b
 first-passed e z q = rw (← e, z) q
+
+pub first-zero : (a b : ℕ) → firstOf a b ≡ 0 → (a ≡ 0) × (b ≡ 0)
+first-zero a b e = go (eqb a 0) refl e
+  where
+    go : (t : Bool) → eqb a 0 ≡ t → cond t b a ≡ 0 → (a ≡ 0) × (b ≡ 0)
+    go true p z = (eqb-true a 0 p, z)
+    go false p z = absurd (true≢false (sym (ap (λ n. eqb n 0) z) ∙ p))
 
 pub filled : (vs l : List ℕ) → length l ≡ length vs → sets l 0 vs ≡ vs
 filled vs l h =

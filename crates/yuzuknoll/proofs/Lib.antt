@@ -1,5 +1,6 @@
 mod Lent
 mod Checking
+mod Raw
 mod Emitting
 pub mod Records
 mod Applying

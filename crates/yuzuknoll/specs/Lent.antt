@@ -6,7 +6,7 @@ use lib.Dec.{eqb}
 use lib.ListN.{length, take, drop, getD}
 use Rattle.values.specs.declared.Key.{Key}
 use Rattle.values.specs.declared.Emitted.{Emitted}
-use Rattle.shader.specs.Demand.{Demand3}
+use Rattle.shader.specs.Demand.{Demands}
 use Rattle.wire.specs.Bodies.{kindByte, recordLength}
 use Rattle.wire.specs.declared.Kind.{Kind}
 
@@ -53,6 +53,6 @@ resultOf l =
       «alpha_warning» = eqb (getD l 7 0) 1;
     }
 
--- demand 3 of a key, of the buffer that the text begins, and of the eight numbers
-abbrev pub ReportedDemand3 : Key → List ℕ → List ℕ → Type 0
-ReportedDemand3 key out l = Demand3 key (take (getD l 0 0) out) (resultOf l)
+-- what is demanded of the names of a key's text, said of the buffer that the text begins and of the eight numbers
+abbrev pub ReportedDemands : Key → List ℕ → List ℕ → Type 0
+ReportedDemands key out l = Demands key (take (getD l 0 0) out) (resultOf l)

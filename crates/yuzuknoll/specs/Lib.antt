@@ -1,4 +1,5 @@
 pub mod Lent
+pub mod Raw
 pub mod Emitting
 pub mod Entries
 pub mod Records

@@ -4,6 +4,7 @@ use crate::check::kind_number;
 use crate::check::record_number;
 use crate::emit::RESULT_LENGTH;
 use crate::emit::emit_values;
+use crate::keys::narrow_in_place;
 use crate::read::kind_in;
 use crate::refuse;
 use states::defaults;
@@ -17,9 +18,10 @@ use wire::key_kind;
 use wire::kind_byte;
 use wire::make::key_record;
 use wire::reader::entry_from_body;
-use wire::reader::key_from_body;
+use wire::reader::narrow_key;
 use wire::reader::state_from_body;
 use wire::reader::variant_from_body;
+use wire::reader::wide_key;
 use wire::record_length;
 use wire::writer::write;
 ghost use Prim.Native.Nat.{_+_, _≤_};
@@ -29,9 +31,10 @@ ghost use lib.ListN.{drop, length, take};
 ghost use lib.Seq.{sets};
 ghost use Rattle.records.specs.Applying.{appliedNumber, emitNumber, holdsAll, keyOrDefaults};
 ghost use Rattle.wire.specs.Bodies.{bodyLength, recordLength};
-ghost use Rattle.yuzuknoll.specs.Lent.{ReportedDemand3, after, recordNumbers};
+ghost use Rattle.yuzuknoll.specs.Raw.{inPlaceOf};
+ghost use Rattle.yuzuknoll.specs.Lent.{ReportedDemands, after, recordNumbers};
 ghost use Rattle.yuzuknoll.specs.Records.{kindIn};
-ghost use Rattle.yuzuknoll.specs.Applying.{appliedNumbers, heldLength, heldOf, heldWith, isRecord, noResult, placeOf, resultWith, textWith};
+ghost use Rattle.yuzuknoll.specs.Applying.{appliedNumbers, heldBody, heldLength, heldOf, heldWide, heldWith, isRecord, noResult, placeOf, resultWith, textWith};
 
 // The held bytes: the records of a key, of either kind, a variant and an entry, each a kind byte and a body.
 const KEY_ROOM: usize = 75;
@@ -96,10 +99,21 @@ fn held_key(held: &[u8]) -> Key
     requires { ⌜ length (now held) ≡ heldLength ⌝ }
     ensures { λ r. ⌜ r ≡ heldOf (now (held .entry)) .key ⌝ }
 {
-    key_from_body(
-        &held[KEY_BODY..VARIANT_PLACE],
-        held[KEY_PLACE] == KIND_WIDE_KEY,
-    )
+    if held[KEY_PLACE] == KIND_WIDE_KEY {
+        return wide_key(&held[KEY_BODY..VARIANT_PLACE]);
+    }
+    narrow_key(&held[KEY_BODY..VARIANT_PLACE])
+}
+
+// The key that is emitted in its place.
+fn held_in_place(held: &[u8]) -> Key
+    requires { ⌜ length (now held) ≡ heldLength ⌝ }
+    ensures { λ r. ⌜ r ≡ inPlaceOf (heldWide (now (held .entry))) (heldBody Kind.Key (now (held .entry))) ⌝ }
+{
+    if held[KEY_PLACE] == KIND_WIDE_KEY {
+        return wide_key(&held[KEY_BODY..VARIANT_PLACE]);
+    }
+    narrow_in_place(&held[KEY_BODY..VARIANT_PLACE])
 }
 
 fn holds_all(held: &[u8]) -> bool
@@ -126,12 +140,12 @@ fn emit_held(held: &[u8], text: &mut [u8], result: &mut [u64; RESULT_LENGTH]) ->
     ensures number { λ r. ⌜ r ≡ emitNumber (heldOf (now (held .entry))) (length (now (text .entry))) ⌝ }
     ensures text { λ r. ⌜ now (text .exit) ≡ after r (textWith Kind.Emit (heldOf (now (held .entry))) (now (text .entry))) (now (text .entry)) ⌝ }
     ensures result { λ r. ⌜ now (result .exit) ≡ after r (resultWith Kind.Emit (heldOf (now (held .entry)))) (now (result .entry)) ⌝ }
-    ensures names { λ r. ⌜ (r ≡ 0 → ReportedDemand3 (heldOf (now (held .entry)) .key) (now (text .exit)) (now (result .exit))) ⌝ }
+    ensures names { λ r. ⌜ (r ≡ 0 → ReportedDemands (heldOf (now (held .entry)) .key) (now (text .exit)) (now (result .exit))) ⌝ }
 {
     if !holds_all(held) {
         return refuse(Refusal::EmitTooEarly);
     }
-    let key = held_key(held);
+    let key = held_in_place(held);
     let variant = variant_from_body(&held[VARIANT_BODY..ENTRY_PLACE]);
     let entry = entry_from_body(&held[ENTRY_BODY..HELD_LENGTH]);
     emit_values(key, variant, entry, text, result)
@@ -203,7 +217,7 @@ fn emit_record(held: &[u8], text: &mut [u8], applied: &mut [u64; APPLIED_LENGTH]
     ensures number { λ r. ⌜ r ≡ emitNumber (heldOf (now (held .entry))) (length (now (text .entry))) ⌝ }
     ensures text { λ r. ⌜ now (text .exit) ≡ after r (textWith Kind.Emit (heldOf (now (held .entry))) (now (text .entry))) (now (text .entry)) ⌝ }
     ensures applied { λ r. ⌜ now (applied .exit) ≡ after r (appliedNumbers Kind.Emit (heldOf (now (held .entry)))) (now (applied .entry)) ⌝ }
-    ensures names { λ r. ⌜ (r ≡ 0 → ReportedDemand3 (heldOf (now (held .entry)) .key) (now (text .exit)) (drop 2 (now (applied .exit)))) ⌝ }
+    ensures names { λ r. ⌜ (r ≡ 0 → ReportedDemands (heldOf (now (held .entry)) .key) (now (text .exit)) (drop 2 (now (applied .exit)))) ⌝ }
 {
     let mut result = [0u64; RESULT_LENGTH];
     let number = emit_held(held, text, &mut result);
@@ -227,7 +241,7 @@ pub extern "C" fn yuzuknoll_apply(
     ensures held { λ r. ⌜ now (held .exit) ≡ after r (heldWith (kindIn (now (bytes .entry))) (now (bytes .entry)) (now (held .entry))) (now (held .entry)) ⌝ }
     ensures text { λ r. ⌜ now (text .exit) ≡ after r (textWith (kindIn (now (bytes .entry))) (heldOf (now (held .entry))) (now (text .entry))) (now (text .entry)) ⌝ }
     ensures applied { λ r. ⌜ now (applied .exit) ≡ after r (appliedNumbers (kindIn (now (bytes .entry))) (heldOf (now (held .entry)))) (now (applied .entry)) ⌝ }
-    ensures names { λ r. ⌜ (r ≡ 0 → kindIn (now (bytes .entry)) ≡ Kind.Emit → ReportedDemand3 (heldOf (now (held .entry)) .key) (now (text .exit)) (drop 2 (now (applied .exit)))) ⌝ }
+    ensures names { λ r. ⌜ (r ≡ 0 → kindIn (now (bytes .entry)) ≡ Kind.Emit → ReportedDemands (heldOf (now (held .entry)) .key) (now (text .exit)) (drop 2 (now (applied .exit)))) ⌝ }
 {
     let number = record_number(bytes);
     if number != ACCEPTED {

@@ -4,6 +4,7 @@ use crate::check::entry_number;
 use crate::check::narrow_key_number;
 use crate::check::variant_number;
 use crate::check::wide_key_number;
+use crate::keys::narrow_in_place;
 use crate::refuse;
 use emission::Answer;
 use emission::Emitted;
@@ -11,18 +12,19 @@ use emission::emit_checked;
 use values::Entry;
 use values::Key;
 use values::Variant;
+use wire::Kind;
 use wire::reader::entry_from_body;
-use wire::reader::narrow_key;
 use wire::reader::variant_from_body;
 use wire::reader::wide_key;
 ghost use mathlib.Core.Path.{_≡_};
 ghost use mathlib.Core.Bool.{false, true};
 ghost use lib.ListN.{length};
 ghost use Rattle.values.specs.Admitted.{Admitted};
-ghost use Rattle.values.specs.Flags.{stageFlagsBad};
+ghost use Rattle.cascade.specs.Effective.{effectiveStages};
 ghost use Rattle.shader.specs.Results.{emissionNumber, emittedOf, textOf};
-ghost use Rattle.wire.specs.Bodies.{entryFromBody, keyFromBody, variantFromBody};
-ghost use Rattle.yuzuknoll.specs.Lent.{ReportedDemand3, after, atFront, resultNumbers};
+ghost use Rattle.wire.specs.Bodies.{keyFromBody};
+ghost use Rattle.wire.specs.Reading.{bodyNumber};
+ghost use Rattle.yuzuknoll.specs.Lent.{ReportedDemands, after, atFront, firstOf, resultNumbers};
 ghost use Rattle.yuzuknoll.specs.Emitting.{bodiesNumber, bodiesResult, bodiesText};
 
 // How many bytes the bodies have.
@@ -52,7 +54,7 @@ fn report(emitted: Emitted, result: &mut [u64; RESULT_LENGTH])
     ];
 }
 
-// From values that are free of the causes 3, 5, 6 and 13.
+// From values that are free of the causes 3, 5, 6 and 13, of a key whose stages take effect as they are.
 pub(crate) fn emit_values(
     key: Key,
     variant: Variant,
@@ -60,11 +62,11 @@ pub(crate) fn emit_values(
     text: &mut [u8],
     result: &mut [u64; RESULT_LENGTH],
 ) -> u64
-    requires { ⌜ Admitted key variant entry ⌝ }
+    requires { ⌜ (effectiveStages key ≡ key .stages) × Admitted key variant entry ⌝ }
     ensures number { λ r. ⌜ r ≡ emissionNumber key variant entry (length (now (text .entry))) ⌝ }
     ensures text { λ r. ⌜ now (text .exit) ≡ after r (atFront (textOf key variant entry) (now (text .entry))) (now (text .entry)) ⌝ }
     ensures result { λ r. ⌜ now (result .exit) ≡ after r (resultNumbers (emittedOf key variant entry)) (now (result .entry)) ⌝ }
-    ensures names { λ r. ⌜ (r ≡ 0 → ReportedDemand3 key (now (text .exit)) (now (result .exit))) ⌝ }
+    ensures names { λ r. ⌜ (r ≡ 0 → ReportedDemands key (now (text .exit)) (now (result .exit))) ⌝ }
 {
     match emit_checked(key, variant, entry, text) {
         Answer::Refused(cause) => refuse(cause),
@@ -75,34 +77,22 @@ pub(crate) fn emit_values(
     }
 }
 
-// From a key that is free of 3, and from the bodies of a variant and an entry.
-fn emit_parts(
-    key: Key,
-    variant: &[u8; VARIANT_LENGTH],
-    entry: &[u8; ENTRY_LENGTH],
-    text: &mut [u8],
-    result: &mut [u64; RESULT_LENGTH],
-) -> u64
-    requires { ⌜ stageFlagsBad (key .stages) ≡ false ⌝ }
-    ensures number { λ r. ⌜ r ≡ emissionNumber key (variantFromBody (now (variant .entry))) (entryFromBody (now (entry .entry))) (length (now (text .entry))) ⌝ }
-    ensures text { λ r. ⌜ now (text .exit) ≡ after r (atFront (textOf key (variantFromBody (now (variant .entry))) (entryFromBody (now (entry .entry)))) (now (text .entry))) (now (text .entry)) ⌝ }
-    ensures result { λ r. ⌜ now (result .exit) ≡ after r (resultNumbers (emittedOf key (variantFromBody (now (variant .entry))) (entryFromBody (now (entry .entry))))) (now (result .entry)) ⌝ }
-    ensures names { λ r. ⌜ (r ≡ 0 → ReportedDemand3 key (now (text .exit)) (now (result .exit))) ⌝ }
+// The first cause of three bodies: the key's, as its number has it, then the variant's and the entry's.
+fn bodies_cause(key_refused: u64, variant: &[u8; VARIANT_LENGTH], entry: &[u8; ENTRY_LENGTH]) -> u64
+    ensures { λ r. ⌜ r ≡ firstOf «key_refused» (firstOf (bodyNumber Kind.Variant (now (variant .entry))) (bodyNumber Kind.Entry (now (entry .entry)))) ⌝ }
 {
+    if key_refused != ACCEPTED {
+        return key_refused;
+    }
     let variant_refused = variant_number(variant);
     if variant_refused != ACCEPTED {
         return variant_refused;
     }
-    let entry_refused = entry_number(entry);
-    if entry_refused != ACCEPTED {
-        return entry_refused;
-    }
-    let v = variant_from_body(variant);
-    let e = entry_from_body(entry);
-    emit_values(key, v, e, text, result)
+    entry_number(entry)
 }
 
-// Writes the text of a key, a variant and an entry to the front of text, and its length, mask, rows, lookups and warnings to result.
+// Writes the text of a key, a variant and an entry to the front of text, and its length, mask, rows, lookups and warnings to result. The key is read
+// first: its bytes are stored a few at a time, and whoever copies it whole right behind that waits for them.
 #[no_mangle]
 pub extern "C" fn yuzuknoll_emit(
     key: &[u8; KEY_LENGTH],
@@ -114,13 +104,16 @@ pub extern "C" fn yuzuknoll_emit(
     ensures number { λ r. ⌜ r ≡ bodiesNumber false (now (key .entry)) (now (variant .entry)) (now (entry .entry)) (length (now (text .entry))) ⌝ }
     ensures text { λ r. ⌜ now (text .exit) ≡ after r (atFront (bodiesText false (now (key .entry)) (now (variant .entry)) (now (entry .entry))) (now (text .entry))) (now (text .entry)) ⌝ }
     ensures result { λ r. ⌜ now (result .exit) ≡ after r (bodiesResult false (now (key .entry)) (now (variant .entry)) (now (entry .entry))) (now (result .entry)) ⌝ }
-    ensures names { λ r. ⌜ (r ≡ 0 → ReportedDemand3 (keyFromBody false (now (key .entry))) (now (text .exit)) (now (result .exit))) ⌝ }
+    ensures names { λ r. ⌜ (r ≡ 0 → ReportedDemands (keyFromBody false (now (key .entry))) (now (text .exit)) (now (result .exit))) ⌝ }
 {
-    let refused = narrow_key_number(key);
+    let k = narrow_in_place(key);
+    let refused = bodies_cause(narrow_key_number(key), variant, entry);
     if refused != ACCEPTED {
         return refused;
     }
-    emit_parts(narrow_key(key), variant, entry, text, result)
+    let v = variant_from_body(variant);
+    let e = entry_from_body(entry);
+    emit_values(k, v, e, text, result)
 }
 
 // The same of a wide key.
@@ -135,11 +128,14 @@ pub extern "C" fn yuzuknoll_emit_wide(
     ensures number { λ r. ⌜ r ≡ bodiesNumber true (now (key .entry)) (now (variant .entry)) (now (entry .entry)) (length (now (text .entry))) ⌝ }
     ensures text { λ r. ⌜ now (text .exit) ≡ after r (atFront (bodiesText true (now (key .entry)) (now (variant .entry)) (now (entry .entry))) (now (text .entry))) (now (text .entry)) ⌝ }
     ensures result { λ r. ⌜ now (result .exit) ≡ after r (bodiesResult true (now (key .entry)) (now (variant .entry)) (now (entry .entry))) (now (result .entry)) ⌝ }
-    ensures names { λ r. ⌜ (r ≡ 0 → ReportedDemand3 (keyFromBody true (now (key .entry))) (now (text .exit)) (now (result .exit))) ⌝ }
+    ensures names { λ r. ⌜ (r ≡ 0 → ReportedDemands (keyFromBody true (now (key .entry))) (now (text .exit)) (now (result .exit))) ⌝ }
 {
-    let refused = wide_key_number(key);
+    let k = wide_key(key);
+    let refused = bodies_cause(wide_key_number(key), variant, entry);
     if refused != ACCEPTED {
         return refused;
     }
-    emit_parts(wide_key(key), variant, entry, text, result)
+    let v = variant_from_body(variant);
+    let e = entry_from_body(entry);
+    emit_values(k, v, e, text, result)
 }

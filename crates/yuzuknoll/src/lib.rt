@@ -4,6 +4,7 @@ mod apply;
 mod check;
 mod emit;
 mod entry;
+mod keys;
 mod read;
 mod write;
 

@@ -1,4 +1,4 @@
-//! 01's rules of names and declarations in a text, and demand 3: that names, rows and lookups of a text fit.
+//! 01's rules of names and declarations in a text, demand 3: that names, rows and lookups of a text fit, and 02's request Six: that no local is idle.
 
 use std::collections::BTreeSet;
 
@@ -16,6 +16,9 @@ const TYPES: [&str; 10] = [
     "texturecube<float>",
     "depth2d<float>",
 ];
+
+/// What a text may not declare and leave idle, without the stage number.
+const WATCHED: [&str; 6] = ["t", "temp", "pc", "bc", "proj", "bump_env"];
 
 /// A listed name where it stands.
 #[derive(Clone, Copy, Debug, PartialEq, Eq)]
@@ -85,6 +88,27 @@ pub fn demand_3(outcome: &Outcome, marks: u16) -> Result<(), String> {
         return Err(format!("more lookups than in mask {}", outcome.mask));
     }
     Ok(())
+}
+
+/// Whether each `t`, `temp`, `pc`, `bc`, `proj` and `bump_env` that a text declares is used behind its declaration.
+///
+/// # Errors
+/// One that is not.
+pub fn no_idle(text: &str) -> Result<(), String> {
+    let mut idle = BTreeSet::new();
+    for Occurrence { name, declared, .. } in occurrences(text) {
+        if !declared {
+            idle.remove(name);
+        } else if is_watched(name) {
+            idle.insert(name);
+        }
+    }
+    let first = idle.first();
+    first.map_or(Ok(()), |name| Err(format!("{name} is idle")))
+}
+
+fn is_watched(name: &str) -> bool {
+    WATCHED.contains(&name.trim_end_matches(|c: char| c.is_ascii_digit()))
 }
 
 /// The decimal number in square brackets at the front.

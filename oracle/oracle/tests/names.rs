@@ -2,7 +2,7 @@
 
 use oraclelib::{
     Outcome, Warnings,
-    names::{Occurrence, demand_3, occurrences},
+    names::{Occurrence, demand_3, no_idle, occurrences},
 };
 
 fn outcome(function: &str, rows: u8, lookups: u8, mask: u16) -> Outcome {
@@ -66,4 +66,27 @@ fn what_does_not_fit_is_told() {
     // A type inside a longer name declares nothing.
     let inside = format!("{GOOD}myfloat4 temp;\n");
     told(&inside, 2, 1, 2, 2, "temp is used before");
+}
+
+#[test]
+fn idle_locals_are_told() {
+    let told = |function: &str| no_idle(&outcome(function, 2, 1, 2).text);
+    assert_eq!(told(GOOD), Ok(()));
+    for name in ["t0", "temp", "pc1", "bc2", "proj7", "bump_env"] {
+        let declared = format!("{GOOD}float4 {name} = current;\n");
+        assert_eq!(told(&declared), Err(format!("{name} is idle")));
+        assert_eq!(told(&format!("{declared}current = {name};\n")), Ok(()));
+        assert_eq!(told(&format!("{declared}{name} *= 2.0;\n")), Ok(()));
+        // A use before the declaration, a longer word and a field are none behind it.
+        for other in [format!("current = {name};\n"), String::new()] {
+            let early = format!("{GOOD}{other}float4 {name} = {name}x + current.{name};\n");
+            assert_eq!(told(&early), Err(format!("{name} is idle")));
+        }
+    }
+    let pointer = format!("    constant float4 *bump_env [[buffer(12)]],\n{GOOD}");
+    assert_eq!(told(&pointer), Err("bump_env is idle".into()));
+    // These may be idle.
+    for name in ["s0", "samp1", "alpha_ref", "lod_bias", "current", "oC0"] {
+        assert_eq!(told(&format!("{GOOD}float4 {name} = t1;\n")), Ok(()));
+    }
 }

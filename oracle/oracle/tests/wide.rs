@@ -5,7 +5,7 @@ use oraclelib::{
     emission::{by_the_rust, predicted},
     emit,
     generate::{self, Rng},
-    names::demand_3,
+    names::{demand_3, no_idle},
     records::{Combiner, KEY, Key, Stage, TEXTURED, TO_TEMP, Triple, WIDE_KEY, WIDE_TRIPLE},
     rules,
 };
@@ -260,9 +260,10 @@ fn bodies() {
     }
 }
 
-/// Demand 3, by the rules' own marks.
+/// Demand 3, by the rules' own marks, and that no local is idle.
 fn check(triple: &Triple, o: &Outcome) {
     demand_3(o, rules::marks(&triple.key))
+        .and_then(|()| no_idle(&o.text))
         .unwrap_or_else(|e| panic!("{e}: {triple:?}\n{}", o.text));
     assert!(o.text.len() <= 16_384);
 }
@@ -300,7 +301,7 @@ fn without_three_operands_the_kinds_agree() {
 }
 
 #[test]
-fn demand_3_holds_for_kind_6() {
+fn names_of_kind_6_fit() {
     let mut rng = Rng::new(8);
     let random = (0..RANDOM).map(|_| generate::wide_triple(&mut rng));
     for triple in random.chain(generate::wide_systematic()) {

@@ -1,11 +1,17 @@
--- The first check that refuses gives the table's first cause; values that pass all four are admitted, and `emit_checked` says the rest.
+-- The first check that refuses gives the table's first cause; values that pass all four are admitted, and `emit_checked` answers the key that takes
+-- effect as this one is answered.
 use mathlib.Core.Bool.{true, false}
 use mathlib.Core.Path.{_≡_, refl, sym, _∙_}
+use native.Mathlib.Omega.{arith}
 use borrow.Author.Needs.{needs}
 use borrow.Author.Tests.{not-true, not-false}
+use lib.ListN.{length, length-map}
 use Rattle.values.specs.Flags.{stageFlagsBad, variantFlagsBad}
 use Rattle.values.specs.Entries.{entryGood}
+use Rattle.values.specs.Admitted.{Admitted}
 use Rattle.emission.proofs.Answers.{stage-flags, variant-flags, entry-name, reserved-word, numbered}
+use Rattle.emission.proofs.Answers.{demanded}
+use Rattle.emission.proofs.InPlace.{effective-in-place, takes-place, place-answer}
 use Rattle.emission.proofs.emit.Statement.{statement}
 use Rattle.emission.proofs.emit.Tie as tie
 
@@ -44,17 +50,41 @@ returns-4 c =
     let a = reserved-word _ _ _ _ (stages-pass (s2 .before .before)) (variant-passes s2) (entry-passes s3) word in
     (a, (refl, (tt, numbered _ _ _ _ a)))
 
-emit-checked-requires : tie.Need-emit-checked-requires
-emit-checked-requires c κs =
-    let s4 = c .before in
-    let s3 = s4 .before .before in
+-- a key has eight stages
+eight : (s : tie.Start) → length (s .args .key .stages) ≡ 8
+eight s = sym (length-map (s .args .key .stages) _) ∙ s .good .0 .1 .1 .0 .1 .0 .1
+
+admitted : (c : tie.Else4) →
+    let s = c .before .before .before .before .before .before .before .before .before in
+    Admitted (s .args .key) (s .args .variant) (s .args .entry)
+admitted c =
+    let s3 = c .before .before in
     let s2 = s3 .before .before in
     record {
       stageFlags = stages-pass (s2 .before .before);
       variantFlags = variant-passes s2;
       entryName = entry-passes s3;
-      entryWord = sym (s4 .before .entry-reserved .ensures) ∙ s4 .if4 .left;
+      entryWord = sym (c .before .entry-reserved .ensures) ∙ c .if4 .left;
     }
+
+emit-checked-requires : tie.Need-emit-checked-requires
+emit-checked-requires c κs =
+    let eff = c .before in
+    takes-place (effective-in-place _ _ _) (eff .effective .ensures) (admitted (eff .before))
+
+returns-5 : tie.Need-returns-5
+returns-5 c =
+    let p = c .before .before in
+    let eff = p .before .before in
+    let s = eff .before .before .before .before .before .before .before .before .before .before in
+    let k = s .args .key in
+    let v = s .args .variant in
+    let e = s .args .entry in
+    let w = rw (eff .effective .ensures) at (p .emit-checked .ensures) in
+    let place = effective-in-place k v e in
+    let a = w .0 ∙ place-answer place _ in
+    let b = rw (place .sameText) at (w .1 .0) in
+    (a, (b, (demanded k v e _ _ (omega (arith, eight s)) (admitted (eff .before)) _ a b, numbered k v e _ a)))
 
 pub emit-spec : {M : Type 1} → statement M
 emit-spec =
@@ -68,6 +98,7 @@ emit-spec =
     returns-3
     (λ c κs. tt)
     returns-4
+    (λ c κs. tt)
     emit-checked-requires
     (λ c. search needs)
-    (λ c. c .before .before .emit-checked .ensures))
+    returns-5)

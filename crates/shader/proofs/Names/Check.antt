@@ -1,4 +1,4 @@
--- A check that goes through the occurrences once, and is enough for demand 3.
+-- A check that goes through the occurrences once, and is enough for demand 3; and what may be declared, for no idle local.
 use Prim.Native.Nat.{ℕ, suc, _+_, _≤_, _<_}
 use mathlib.Core.Path.{_≡_, refl, ap, sym, subst}
 use mathlib.Core.List.{List, [], _∷_, _++_, append-nil}
@@ -6,15 +6,16 @@ use mathlib.Core.Bool.{Bool, true, false, _&&_, _||_, cond}
 use native.Mathlib.Omega.{arith}
 use lib.Dec.{T, eqb, eqb→eq, eqb-refl}
 use Rattle.values.specs.Listed.{Name, name}
-use Rattle.shader.specs.Names.{Occurrence, declaration, usage, row}
-use Rattle.shader.specs.Demand.{sameName, declared, isTexel, texels}
+use Rattle.shader.specs.Names.{sameName, Occurrence, declaration, usage, row}
+use Rattle.shader.specs.Demand.{declared, isTexel, texels}
 use Rattle.shader.proofs.Names.Truth.{and-fst, and-snd, both, inl}
 
--- what the check is made against: an order in which names are declared, the row count and the lookups
+-- what the check is made against: an order in which names are declared, the row count, the lookups, and which names may be declared
 pub record Aim : Type 0 where
   pub rank : Name → ℕ
   pub rows : ℕ
   pub total : ℕ
+  pub may : Name → Bool
 
 -- what is known at a place: names that have been declared, a rank above all of theirs, and the lookups so far
 pub record Known : Type 0 where
@@ -29,10 +30,14 @@ add m has n = sameName n m || has n
 abbrev pub declaring : Aim → Name → Known → Known
 declaring A m K = record { has = add m (K .has); next = suc (A .rank m); seen = cond (isTexel m) (suc (K .seen)) (K .seen) }
 
--- A use needs its name declared, a declaration a rank above those before it, a row its place in the row count.
+-- what a declaration needs: a rank above those before it, and that the name may be declared
+abbrev pub Free : Aim → Known → Name → Type 0
+Free A K m = (K .next ≤ A .rank m) × T (A .may m)
+
+-- A use needs its name declared, a declaration its name free, a row its place in the row count.
 abbrev pub Holds : Aim → Known → List Occurrence → Type 0
 Holds A K [] = K .seen ≡ A .total
-Holds A K (declaration m ∷ l) = (K .next ≤ A .rank m) × Holds A (declaring A m K) l
+Holds A K (declaration m ∷ l) = Free A K m × Holds A (declaring A m K) l
 Holds A K (usage m ∷ l) = T (K .has m) × Holds A K l
 Holds A K (row k ∷ l) = (k < A .rows) × Holds A K l
 
@@ -97,7 +102,7 @@ module _ (A : Aim) where
         seen = omega arith;
       }
   reach (declaration m ∷ a) l K count t h =
-      let g = reach a l (declaring A m K) _ (declare-sound K count m (h .0) t) (h .1) in
+      let g = reach a l (declaring A m K) _ (declare-sound K count m (h .0 .0) t) (h .1) in
       record {
         known = g .known;
         holds = g .holds;
@@ -132,3 +137,6 @@ module _ (A : Aim) (l : List Occurrence) (h : Holds A nothing l) where
 
   pub checked-lookups : texels l ≡ A .total
   checked-lookups = let g = reached l [] (sym (append-nil l)) in omega (arith, g .seen, g .holds)
+
+  pub checked-may : (n : Name) (a c : List Occurrence) → l ≡ a ++ (declaration n ∷ c) → T (A .may n)
+  checked-may n a c e = reached a (declaration n ∷ c) e .holds .0 .1

@@ -1,9 +1,12 @@
--- Short texts, and what is found in them, each by computing.
+-- Short texts, and what is found in them, each by computing; texts with an idle local.
 use Prim.Native.String.{String}
+use mathlib.Core.Bool.{Bool, true, false}
 use mathlib.Core.Path.{_≡_, refl}
-use mathlib.Core.List.{List, [], _∷_, _++_}
+use mathlib.Core.List.{List, [], _∷_, _++_, map}
+use lib.ListN.{replicate}
 use Rattle.text.specs.Text.{bytes}
 use Rattle.shader.specs.Names.{word, tokens, Occurrence, declaration, usage, row, occurrences}
+use Rattle.shader.specs.Idle.{watched, NoIdle}
 use Rattle.shader.proofs.Names.Words.{the}
 
 -- behind an entry
@@ -51,3 +54,23 @@ no-row-of-a-declaration = refl
 
 numbers : found "t8 t07 t_7 7t7 T7 pc7" ≡ usage (the "pc7") ∷ []
 numbers = refl
+
+-- Texts with an idle local are refuted: one that is not used behind its declaration, and one that is used before it alone.
+idle : NoIdle (bytes "fragment m(float4 t0 = s0.sample(samp0, in.texcoord0.xy); current = in.color0") → ⊥
+idle h = h (the "t0") [] (usage (the "s0") ∷ usage (the "samp0") ∷ usage (the "in") ∷ usage (the "current") ∷ usage (the "in") ∷ []) tt refl
+
+used-too-early : NoIdle (bytes "fragment m(current = temp; float4 temp = float4(0.0)") → ⊥
+used-too-early h = h (the "temp") (usage (the "current") ∷ usage (the "temp") ∷ []) [] tt refl
+
+-- another stage's texel is no use, nor is a field of that name
+another-texel : NoIdle (bytes "fragment m(float4 t0 = t1.t0") → ⊥
+another-texel h = h (the "t0") [] (usage (the "t1") ∷ []) tt refl
+
+abbrev watches : List String → List Bool
+watches l = map (λ s. watched (the s)) l
+
+may-not-be-idle : watches ("t0" ∷ "temp" ∷ "pc1" ∷ "bc7" ∷ "proj2" ∷ "bump_env" ∷ []) ≡ replicate 6 true
+may-not-be-idle = refl
+
+may-be-idle : watches ("s0" ∷ "samp0" ∷ "alpha_ref" ∷ "lod_bias" ∷ []) ≡ replicate 4 false
+may-be-idle = refl

@@ -8,8 +8,8 @@ use lib.Dec.{T}
 use Rattle.text.specs.Text.{Text, _⊕_, pick, flat}
 use Rattle.values.specs.Entries.{continuesName}
 use Rattle.values.specs.Listed.{Name}
-use Rattle.shader.specs.Names.{Token, tokens, Occurrence, declaration, usage, row}
-use Rattle.shader.specs.Demand.{sameName, isTexel}
+use Rattle.shader.specs.Names.{sameName, Token, tokens, Occurrence, declaration, usage, row}
+use Rattle.shader.specs.Demand.{isTexel}
 use Rattle.shader.proofs.Names.Truth.{inr, false-of}
 use Rattle.shader.proofs.Names.Scan.{scan, breaks}
 use Rattle.shader.proofs.Names.Check.{Aim, Known, Holds, declaring}
@@ -98,7 +98,7 @@ declaring-more A n K K′ u m t = or-map (sameName m n) (K .has m) (K′ .has m)
 pub forget : (A : Aim) (l : List Occurrence) (K K′ : Known) → Under K K′ → Holds A K l → Holds A K′ l
 forget A [] K K′ u h = sym (u .same) ∙ h
 forget A (declaration m ∷ l) K K′ u h = (
-  omega (arith, h .0, u .lower),
+  (omega (arith, h .0 .0, u .lower), h .0 .1),
   forget A l (declaring A m K) (declaring A m K′) (record {
     more =
         declaring-more A m K K′ (u .more);

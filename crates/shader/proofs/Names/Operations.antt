@@ -6,7 +6,7 @@ use mathlib.Core.Path.{_≡_, refl, sym, subst}
 use mathlib.Core.List.{List, [], _∷_}
 use mathlib.Core.Bool.{Bool, true, false, not, _&&_, _||_, cond, Bool·beq, and-false}
 use native.Mathlib.Omega.{arith}
-use lib.Dec.{T, T-not, eqb, leb, leb→le, nleb→lt, lit<, eqb→eq}
+use lib.Dec.{T, eqb, leb, leb→le, nleb→lt, lit<, eqb→eq}
 use borrow.Author.Tests.{ne-eqb, lt-leb}
 use Rattle.text.specs.Text.{Text, none, bytes}
 use Rattle.text.specs.Format.{Piece, words, slot, cut, Slot, _≔_, same, find, pieceText, fill}
@@ -17,9 +17,8 @@ use Rattle.combiners.specs.Combiners.{opCodes, look, opOf, template, opText, ha
 use Rattle.combiners.specs.declared.Op.{Op}
 use Rattle.combiners.specs.declared.Op.the-variants.{Other}
 use Rattle.values.specs.Listed.{Name}
-use Rattle.shader.specs.Names.{tokens, Occurrence, declaration, usage, row}
-use Rattle.shader.specs.Demand.{sameName}
-use Rattle.shader.proofs.Names.Truth.{and-fst, and-snd, inl, inr, either, cond-cases, below, below-at}
+use Rattle.shader.specs.Names.{sameName, tokens, Occurrence, declaration, usage, row}
+use Rattle.shader.proofs.Names.Truth.{and-fst, and-snd, inl, inr, either, other, cond-cases, below, below-at}
 use Rattle.shader.proofs.Names.Scan.{scan}
 use Rattle.shader.proofs.Names.Check.{Aim, Known, same→eq}
 use Rattle.shader.proofs.Names.Frag.{Frag}
@@ -37,7 +36,7 @@ abbrev allCommon : Bool → List Occurrence → Bool
 allCommon factor [] = true
 allCommon factor (o ∷ l) = common factor o && allCommon factor l
 
-abbrev operands : Text → Text → Text → Text → List Slot
+abbrev pub operands : Text → Text → Text → Text → List Slot
 operands a b x z = ("a" ≔ a) ∷ ("b" ≔ b) ∷ ("t" ≔ x) ∷ ("z" ≔ z) ∷ []
 
 abbrev isOneOf : List Slot → List ℕ → Bool
@@ -68,7 +67,7 @@ look-far [] c t h = refl
 look-far (e ∷ r) c t h =
     rw (far c (e .0) h (leb→le (suc (e .0)) 27 (and-fst (leb (suc (e .0)) 27) _ t))) (look-far r c (and-snd (leb (suc (e .0)) 27) _ t) h)
 
-every-code : (q : ℕ → Op → Bool) → T (below 27 (λ c. q c (opOf c))) → ((c : ℕ) → 27 ≤ c → T (q c Other)) → (c : ℕ) → T (q c (opOf c))
+pub every-code : (q : ℕ → Op → Bool) → T (below 27 (λ c. q c (opOf c))) → ((c : ℕ) → 27 ≤ c → T (q c Other)) → (c : ℕ) → T (q c (opOf c))
 every-code q t d c = go (leb 27 c) (leb→le 27 c) (nleb→lt 27 c)
   where
     go : (b : Bool) → (T b → 27 ≤ c) → (T (not b) → c < 27) → T (q c (opOf c))
@@ -166,7 +165,7 @@ module _ (A : Aim) {K : Known} (base : Base K) (factor : Bool) (top : T factor �
   find-frag [] v t g = absurd t
   find-frag ((n ≔ x) ∷ f) v t g =
       cond-cases (same (bytes n) v) x (find f v) (Frag A K) (g .0)
-      (λ e. find-frag f v (either (same (bytes n) v) _ (λ s. absurd (T-not (same (bytes n) v) e s)) (λ o. o) t) (g .1))
+      (λ e. find-frag f v (other (same (bytes n) v) _ t e) (g .1))
 
   module _ (a b x z : Text) where
     abbrev slots : List Slot

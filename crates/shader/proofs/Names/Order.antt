@@ -1,13 +1,14 @@
 -- The order in which a text declares the listed names, and the names of a stage as words.
 use Prim.Native.Nat.{ℕ, _+_, _*_, _<_}
 use mathlib.Core.List.{List, [], _∷_}
-use mathlib.Core.Bool.{Bool, cond}
+use mathlib.Core.Bool.{Bool, not, _||_, cond}
 use lib.ListN.{getD}
 use Rattle.text.specs.Text.{bytes, flat}
 use Rattle.shader.specs.Lookups.{textureName, samplerName, coordinateText}
 use Rattle.shader.specs.declared.Coordinate.{Coordinate}
 use Rattle.shader.specs.declared.Coordinate.the-variants.{Interpolated, Divided, Displaced, Projected}
 use Rattle.values.specs.Listed.{Name, name}
+use Rattle.shader.specs.Idle.{watched}
 use Rattle.shader.proofs.Names.Check.{Aim}
 use Rattle.shader.proofs.Names.Words.{the, Word, family}
 
@@ -22,8 +23,9 @@ order sprite =
 abbrev pub rankOf : Bool → Name → ℕ
 rankOf sprite (name k i) = getD (order sprite) k (λ i. 0) i
 
-abbrev pub aim : Bool → ℕ → ℕ → Aim
-aim sprite rows total = record { rank = rankOf sprite; rows = rows; total = total }
+-- named: the names that the whole text uses. One that may not be idle may be declared only if it is among them.
+abbrev pub aim : Bool → ℕ → ℕ → (Name → Bool) → Aim
+aim sprite rows total named = record { rank = rankOf sprite; rows = rows; total = total; may = λ m. not (watched m) || named m }
 
 -- the names of stage i
 abbrev pub textureOf : ℕ → Name

@@ -9,6 +9,7 @@ use Rattle.text.specs.Text.{_⊕_, lit, bytes, flat, decimal}
 use Rattle.text.specs.Format.{format, _≔_}
 use Rattle.shader.specs.Output.{srgbWrite, sampleMask, fogSourceW, fogged, tested, specularText, fogDepthText, fogFactorText, fogText, comparisonText, testText, srgbText, returnText, outputText}
 use Rattle.values.specs.declared.Variant.{Variant}
+use Rattle.values.specs.Listed.{Name}
 use Rattle.shader.proofs.Names.Truth.{inl, inr, cond-cases}
 use Rattle.shader.proofs.Names.Check.{Aim, Known, declaring}
 use Rattle.shader.proofs.Names.Frag.{has-more, Reads, literal, _⨾_, done, Frag, arg, pick-frag, loses, forgotten}
@@ -22,9 +23,9 @@ pub when-reads : {A : Aim} {K : Known} (b : Bool) (x : List ℕ) → (T b → Re
 when-reads true x h = h tt
 when-reads false x h = done
 
-module _ (sprite : Bool) (rows total : ℕ) where
+module _ (sprite : Bool) (rows total : ℕ) (named : Name → Bool) where
   abbrev A : Aim
-  A = aim sprite rows total
+  A = aim sprite rows total named
 
   specular-reads : (on : Bool) (K : Known) → T (K .has (the "in")) → T (K .has (the "current")) → Reads A K [] (flat (specularText on)) K []
   unfolding specularText
@@ -39,8 +40,8 @@ module _ (sprite : Bool) (rows total : ℕ) where
       → Reads A K [] (flat (fogDepthText w)) (declaring A (the "fog_c") K) []
   unfolding fogDepthText
   depth-reads w K p i f =
-      cond-cases w _ _ (λ x. Reads A K [] x (declaring A (the "fog_c") K) []) (λ t. literal (λ r k. (p, (i, k))))
-      (λ t. literal (λ r k. (p, (i, (f, k)))))
+      cond-cases w _ _ (λ x. Reads A K [] x (declaring A (the "fog_c") K) []) (λ t. literal (λ r k. ((p, tt), (i, k))))
+      (λ t. literal (λ r k. ((p, tt), (i, (f, k)))))
 
   abbrev factored : Known → Known
   factored K = declaring A (the "fog_f") K
@@ -49,11 +50,11 @@ module _ (sprite : Bool) (rows total : ℕ) where
       → Reads A K [] (flat (fogFactorText mode)) (factored K) []
   unfolding fogFactorText
   factor-reads mode K p f c =
-      cond-cases (eqb mode 1) _ _ (λ x. Reads A K [] x (factored K) []) (λ t. literal (λ r k. (omega arith, (f, (c, k))))) λ t.
+      cond-cases (eqb mode 1) _ _ (λ x. Reads A K [] x (factored K) []) (λ t. literal (λ r k. ((omega arith, tt), (f, (c, k))))) λ t.
       cond-cases (eqb mode 2) _ _ (λ x. Reads A K [] x (factored K) [])
-      (λ t. loses (forgotten A (the "fog_dz") (the "fog_f") K tt) (literal (λ r k. (omega arith, (f, (c, (lit≤ tt, (tt, (tt, k)))))))))
+      (λ t. loses (forgotten A (the "fog_dz") (the "fog_f") K tt) (literal (λ r k. ((omega arith, tt), (f, (c, ((lit≤ tt, tt), (tt, (tt, k)))))))))
       (λ t. loses (forgotten A (the "fog_range") (the "fog_f") K tt)
-      (literal (λ r k. (omega arith, (f, (f, (lit≤ tt, (tt, (c, (f, (f, (c, (tt, k)))))))))))))
+      (literal (λ r k. ((omega arith, tt), (f, (f, ((lit≤ tt, tt), (tt, (c, (f, (f, (c, (tt, k)))))))))))))
 
   fog-reads : (v : Variant) (K : Known) → K .next ≤ 81 → T (K .has (the "in")) → T (K .has (the "oC0"))
       → (T (fogged v) → T (K .has (the "fog_data"))) → Reads A K [] (flat (fogText v)) (later 85 (K .seen) K) []
@@ -109,7 +110,7 @@ module _ (sprite : Bool) (rows total : ℕ) where
       let K₁ : Known = declaring A (the "oC0") K in
       let K₂ : Known = later 85 (K .seen) K₁ in
       specular-reads specular K i c
-      ⨾ literal {K′ = K₁} {b′ = []} {x = bytes "    float4 oC0 = current;\n"} (λ r k. (p, (c, k)))
+      ⨾ literal {K′ = K₁} {b′ = []} {x = bytes "    float4 oC0 = current;\n"} (λ r k. ((p, tt), (c, k)))
       ⨾ fog-reads v K₁ (lit≤ tt) i tt f
       ⨾ test-reads v K₂ tt a
       ⨾ srgb-reads (srgbWrite v) K₂ tt

@@ -12,6 +12,7 @@ use Rattle.values.specs.declared.Stage.{Stage}
 use Rattle.shader.specs.Output.{pointSprite, lodBias, fogged, tested}
 use Rattle.shader.specs.Whole.{parametersText}
 use Rattle.values.specs.declared.Variant.{Variant}
+use Rattle.values.specs.Listed.{Name}
 use Rattle.shader.proofs.Names.Truth.{inl}
 use Rattle.shader.proofs.Names.Check.{Aim, Known, declaring, nothing}
 use Rattle.shader.proofs.Names.Frag.{literal, _⨾_}
@@ -40,12 +41,12 @@ entered-point : (sprite : Bool) → T sprite → T (entered sprite .has (the "po
 entered-point true t = tt
 entered-point false t = absurd t
 
-module _ (v : Variant) (ss : List Stage) (rows total : ℕ) where
+module _ (v : Variant) (ss : List Stage) (rows total : ℕ) (named : Name → Bool) where
   abbrev sprite : Bool
   sprite = pointSprite v
 
   abbrev A : Aim
-  A = aim sprite rows total
+  A = aim sprite rows total named
 
   -- what the parameters leave known
   pub record Given (K : Known) : Type 0 where
@@ -59,15 +60,16 @@ module _ (v : Variant) (ss : List Stage) (rows total : ℕ) where
     pub isLod : T (lodBias v) → T (K .has (the "lod_bias"))
     pub isTextured : Textured K 0 ss
 
-  pub parameters-pass : length ss ≤ 8 → Passed rows total sprite nothing (flat (parametersText v ss)) 26 Given
+  pub parameters-pass : length ss ≤ 8 → (T (readsBumpEnv (live ss) ss) → T (named (the "bump_env")))
+      → Passed rows total named sprite nothing (flat (parametersText v ss)) 26 Given
   unfolding parametersText
-  parameters-pass l =
+  parameters-pass l env =
       let K₀ : Known = declaring A (the "ps_c") (entered sprite) in
       let K₁ : Known = optional A (tested v) (the "alpha_ref") K₀ in
       let K₂ : Known = optional A (fogged v) (the "fog_data") K₁ in
       let K₃ : Known = optional A (readsBumpEnv (live ss) ss) (the "bump_env") K₂ in
       let K₄ : Known = optional A (lodBias v) (the "lod_bias") K₃ in
-      let g = samplers-pass rows total sprite v ss 0 K₄ (omega arith) (lit≤ tt) in
+      let g = samplers-pass rows total named sprite v ss 0 K₄ (omega arith) (lit≤ tt) in
       record {
         known = g .known;
         more = λ n t. absurd t;
@@ -86,16 +88,16 @@ module _ (v : Variant) (ss : List Stage) (rows total : ℕ) where
               isTextured = g .gives;
             };
         reads =
-            stage-in-reads rows total sprite
-            ⨾ literal {K′ = K₀} {b′ = []} {x = bytes "    constant float4 *ps_c [[buffer(15)]]"} (λ r k. (entered-next sprite, k))
+            stage-in-reads rows total named sprite
+            ⨾ literal {K′ = K₀} {b′ = []} {x = bytes "    constant float4 *ps_c [[buffer(15)]]"} (λ r k. ((entered-next sprite, tt), k))
             ⨾ optional-reads (tested v) (the "alpha_ref") (bytes ",\n    constant float &alpha_ref [[buffer(14)]]") tt (lit≤ tt)
-            (literal (λ r k. (lit≤ tt, k)))
+            (λ w. literal (λ r k. ((lit≤ tt, tt), k)))
             ⨾ optional-reads (fogged v) (the "fog_data") (bytes ",\n    constant float4 *fog_data [[buffer(13)]]") tt (lit≤ tt)
-            (literal (λ r k. (lit≤ tt, k)))
+            (λ w. literal (λ r k. ((lit≤ tt, tt), k)))
             ⨾ optional-reads (readsBumpEnv (live ss) ss) (the "bump_env") (bytes ",\n    constant float4 *bump_env [[buffer(12)]]") tt
-            (lit≤ tt) (literal (λ r k. (lit≤ tt, k)))
+            (lit≤ tt) (λ w. literal (λ r k. ((lit≤ tt, env w), k)))
             ⨾ optional-reads (lodBias v) (the "lod_bias") (bytes ",\n    constant float4 *lod_bias [[buffer(11)]]") tt (lit≤ tt)
-            (literal (λ r k. (lit≤ tt, k)))
+            (λ w. literal (λ r k. ((lit≤ tt, tt), k)))
             ⨾ g .reads
             ⨾ literal {x = bytes "\n) {\n"} (λ r k. k);
       }

@@ -16,7 +16,8 @@ use Rattle.shader.specs.declared.TextureType.{TextureType}
 use Rattle.shader.specs.declared.TextureType.the-variants.{Depth, Volume, Cube, Flat}
 use Rattle.shader.specs.declared.Coordinate.the-variants.{Interpolated}
 use Rattle.values.specs.Listed.{Name}
-use Rattle.shader.specs.Demand.{sameName, isTexel}
+use Rattle.shader.specs.Names.{sameName}
+use Rattle.shader.specs.Demand.{isTexel}
 use Rattle.shader.proofs.Names.Truth.{false-of, inr, either}
 use Rattle.shader.proofs.Names.Check.{Aim, Known, add, declaring, nothing, add-self, same→eq}
 use Rattle.shader.proofs.Names.Frag.{Has, has-more, Reads, literal, _⨾_, done, arg, loses}
@@ -31,9 +32,9 @@ abbrev pub optional : Aim → Bool → Name → Known → Known
 optional A b n K = record { has = λ m. (sameName m n && b) || K .has m; next = suc (A .rank n); seen = K .seen }
 
 pub optional-reads : {A : Aim} {K : Known} (b : Bool) (n : Name) (x : List ℕ) → T (not (isTexel n)) → K .next ≤ suc (A .rank n)
-    → Reads A K [] x (declaring A n K) [] → Reads A K [] (cond b x []) (optional A b n K) []
+    → (T b → Reads A K [] x (declaring A n K) []) → Reads A K [] (cond b x []) (optional A b n K) []
 optional-reads {A} {K} true n x t p h =
-    loses (record { more = λ m s. rw and-true at s; lower = omega arith; same = rw (false-of (isTexel n) t) }) h
+    loses (record { more = λ m s. rw and-true at s; lower = omega arith; same = rw (false-of (isTexel n) t) }) (h tt)
 optional-reads {A} {K} false n x t p h = loses (record { more = λ m s. rw and-false at s; lower = p; same = refl }) done
 
 pub optional-more : (A : Aim) (b : Bool) (n : Name) (K : Known) → Has K (optional A b n K)
@@ -44,14 +45,14 @@ abbrev pub entered : Bool → Known
 entered true = record { has = add (the "point_coord") (add (the "in_stage") (nothing .has)); next = 2; seen = 0 }
 entered false = record { has = add (the "in") (nothing .has); next = 3; seen = 0 }
 
-module _ (rows total : ℕ) where
-  pub stage-in-reads : (sprite : Bool) → Reads (aim sprite rows total) nothing [] (flat (stageInText sprite)) (entered sprite) []
+module _ (rows total : ℕ) (named : Name → Bool) where
+  pub stage-in-reads : (sprite : Bool) → Reads (aim sprite rows total named) nothing [] (flat (stageInText sprite)) (entered sprite) []
   unfolding stageInText
-  stage-in-reads true = literal (λ r k. (lit≤ tt, (lit≤ tt, (tt, k))))
-  stage-in-reads false = literal (λ r k. (lit≤ tt, k))
+  stage-in-reads true = literal (λ r k. ((lit≤ tt, tt), ((lit≤ tt, tt), (tt, k))))
+  stage-in-reads false = literal (λ r k. ((lit≤ tt, tt), k))
 
   sprite-line : (sprite : Bool) (K : Known) (i : ℕ) → i < 8 → T (K .has (the "in")) → T (K .has (the "point_coord"))
-      → Reads (aim sprite rows total) K [] (flat (spriteLine i)) K []
+      → Reads (aim sprite rows total named) K [] (flat (spriteLine i)) K []
   unfolding spriteLine coordinateText
   sprite-line sprite K i l h p =
       format-reads "    " (lit "    ") tt tt
@@ -68,12 +69,12 @@ module _ (rows total : ℕ) where
 
   pub sprite-reads : (sprite : Bool) (K : Known) → K .next ≤ 30 → (T sprite → T (K .has (the "in_stage")))
       → (T sprite → T (K .has (the "point_coord"))) → (T (not sprite) → T (K .has (the "in")))
-      → Reads (aim sprite rows total) K [] (flat (spriteText sprite)) (within K) []
+      → Reads (aim sprite rows total named) K [] (flat (spriteText sprite)) (within K) []
   unfolding spriteText
   sprite-reads true K p s c i =
-      let line : (i : ℕ) → i < 8 → Reads (aim true rows total) (within K) [] (flat (spriteLine i)) (within K) [] =
+      let line : (i : ℕ) → i < 8 → Reads (aim true rows total named) (within K) [] (flat (spriteLine i)) (within K) [] =
       λ i l. sprite-line true (within K) i l tt (c tt) in
-      literal {K′ = within K} {b′ = []} {x = bytes "    Varyings in = in_stage;\n"} (λ r k. (p, (s tt, k)))
+      literal {K′ = within K} {b′ = []} {x = bytes "    Varyings in = in_stage;\n"} (λ r k. ((p, tt), (s tt, k)))
       ⨾ line 0 (lit≤ tt) ⨾ line 1 (lit≤ tt) ⨾ line 2 (lit≤ tt) ⨾ line 3 (lit≤ tt)
       ⨾ line 4 (lit≤ tt) ⨾ line 5 (lit≤ tt) ⨾ line 6 (lit≤ tt) ⨾ line 7 (lit≤ tt)
   sprite-reads false K p s c i =
@@ -87,7 +88,7 @@ module _ (rows total : ℕ) where
 
   module _ (sprite : Bool) where
     abbrev A : Aim
-    A = aim sprite rows total
+    A = aim sprite rows total named
 
     -- a texture and its sampler
     type-introduces : (t : TextureType) → T (introduces (bytes ",\n    " ++ (flat (typeText t) ++ bytes " ")))
@@ -104,7 +105,7 @@ module _ (rows total : ℕ) where
         let slot : Text = lit " [[texture(" ⊕ digit i ⊕ lit ")]]" in
         let front : List ℕ = bytes ",\n    " ++ (flat (typeText t) ++ bytes " ") in
         let h : Reads A K [] (front ++ (flat (textureName i) ++ flat slot)) (declaring A (textureOf i) K) [] =
-        declared-read front (type-introduces t) (textureWord i l) p tt
+        declared-read front (type-introduces t) (textureWord i l) (p, tt) tt
         (format-reads " [[texture({i})]]" slot tt (number-frag (one-digit i (omega arith)), tt)) in
         rw (append-assoc (flat (typeText t)) (bytes " ") (flat (textureName i) ++ flat slot)) at h
 
@@ -112,7 +113,7 @@ module _ (rows total : ℕ) where
         → Reads A K [] (flat (samplerParameter i)) (declaring A (samplerOf i) K) []
     unfolding samplerParameter
     sampler-reads K i l p =
-        line-reads ",\n    sampler {samp} [[sampler({i})]]" (samplerParameter i) tt (samplerWord i l) p
+        line-reads ",\n    sampler {samp} [[sampler({i})]]" (samplerParameter i) tt (samplerWord i l) (p, tt)
         (number-frag (one-digit i (omega arith)), tt)
 
     -- x is read, and leaves one who knows what X says

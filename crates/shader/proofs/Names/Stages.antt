@@ -23,6 +23,7 @@ use Rattle.shader.specs.Output.{lodBias}
 use Rattle.shader.specs.Whole.{stageLine, stagesText}
 use Rattle.values.specs.declared.Variant.{Variant}
 use Rattle.shader.specs.declared.Before.{Before}
+use Rattle.values.specs.Listed.{Name}
 use Rattle.shader.proofs.Names.Truth.{true-of, and-snd, both, inl, inr, cond-cases}
 use Rattle.shader.proofs.Names.Check.{Aim, Known, declaring, add-self}
 use Rattle.shader.proofs.Names.Frag.{Has, has-more, Reads, _⨾_, done, Frag, pick-frag, loses}
@@ -32,6 +33,8 @@ use Rattle.shader.proofs.Names.Arguments.{Base, base-more, texel, Sure,
 use Rattle.shader.proofs.Names.Operations.{op-frag}
 use Rattle.shader.proofs.Names.Order.{aim, textureOf, samplerOf}
 use Rattle.shader.proofs.Names.Lookups.{Behind, sample-reads}
+use Rattle.shader.proofs.Names.Mentions.{Inside, mentions-left, mentions-right}
+use Rattle.shader.proofs.Names.Locals.{stages-texel}
 use Rattle.shader.proofs.Names.Rules.{Enabled, marked-bound, alpha-cases, colour-constant, alpha-constant, colour-factor, alpha-factor, last-head, last-tail, factor-head, factor-tail, live-head, live-tail, env-head, env-tail, mark-bump, mark-line, lined-temp, colour-reads, alpha-reads}
 
 -- what a combiner's expression needs at stage i
@@ -129,9 +132,9 @@ textured-more K K′ u i (s ∷ r) t =
 abbrev pub later : ℕ → ℕ → Known → Known
 later n s K = record { has = K .has; next = n; seen = s }
 
-module _ (sprite : Bool) (rows total : ℕ) (v : Variant) (projected : ℕ) (alive : Bool) where
+module _ (sprite : Bool) (rows total : ℕ) (named : Name → Bool) (v : Variant) (projected : ℕ) (alive : Bool) where
   abbrev A : Aim
-  A = aim sprite rows total
+  A = aim sprite rows total named
 
   -- what is known before the stages ss, the first of them stage i
   pub record Env (K : Known) (before : Before) (i : ℕ) (ss : List Stage) : Type 0 where
@@ -148,6 +151,7 @@ module _ (sprite : Bool) (rows total : ℕ) (v : Variant) (projected : ℕ) (ali
     pub factors : T (anyFactor ss) → 0 < rows
     pub enabled : Enabled ss
     pub count : K .seen + lookupsOf alive ss ≡ total
+    pub inside : Inside named (flat (stagesText v projected alive before i ss))
 
   module _ (i : ℕ) (s : Stage) (r : List Stage) where
     line-reads : (K K₀ : Known) (before : Before) → Has K₀ K → Env K₀ before i (s ∷ r) → (T (marked alive (s ∷ r)) → T (K .has (texel i)))
@@ -188,9 +192,10 @@ module _ (sprite : Bool) (rows total : ℕ) (v : Variant) (projected : ℕ) (ali
     -- what is known behind stage i, its lookup marked or not
     next-env : (K K₁ : Known) (before : Before) → Env K before i (s ∷ r) → Has K K₁ → K₁ .next ≤ 44 + 4 * i
         → (T (marked alive (s ∷ r)) → T (K₁ .has (texel i))) → K₁ .seen + lookupsOf alive r ≡ total
+        → Inside named (flat (stagesText v projected alive (beforeOf i s) (suc i) r))
         → Env K₁ (beforeOf i s) (suc i) r
     unfolding beforeOf
-    next-env K K₁ before e u f m c =
+    next-env K K₁ before e u f m c w =
         record {
           small = omega (arith, e .small);
           free = omega arith;
@@ -207,6 +212,7 @@ module _ (sprite : Bool) (rows total : ℕ) (v : Variant) (projected : ℕ) (ali
           factors = λ t. e .factors (factor-tail s r t);
           enabled = e .enabled .1;
           count = c;
+          inside = w;
         }
 
   pub stages-read : (ss : List Stage) (before : Before) (i : ℕ) (K : Known) → Env K before i ss
@@ -214,29 +220,35 @@ module _ (sprite : Bool) (rows total : ℕ) (v : Variant) (projected : ℕ) (ali
   unfolding stagesText lookupsOf
   stages-read [] before i K e =
       loses (record { more = λ n t. t; lower = omega (arith, e .small, e .free); same = omega (arith, e .count) }) done
-  stages-read (s ∷ r) before i K e = go (marked alive (s ∷ r)) (λ t. t) (λ t. t) (e .count) (stages-read r (beforeOf i s) (suc i))
+  stages-read (s ∷ r) before i K e =
+      go (marked alive (s ∷ r)) (λ t. t) (λ t. t) (e .count) (e .inside) (stages-read r (beforeOf i s) (suc i))
     where
       S : List ℕ
       S = flat (sampleText before (lookupOf v i) (lodBias v) (bit projected i) i)
+
+      L : List ℕ
+      L = flat (stageLine alive i s (decode s))
 
       R : List ℕ
       R = flat (stagesText v projected alive (beforeOf i s) (suc i) r)
 
       go : (m : Bool) → (T (marked alive (s ∷ r)) → T m) → (T m → T (marked alive (s ∷ r)))
           → K .seen + cond m (suc (lookupsOf alive r)) (lookupsOf alive r) ≡ total
+          → Inside named (cond m S [] ++ (L ++ R))
           → ((K₁ : Known) → Env K₁ (beforeOf i s) (suc i) r → Reads A K₁ [] R (later 72 total K₁) [])
-          → Reads A K [] (cond m S [] ++ (flat (stageLine alive i s (decode s)) ++ R)) (later 72 total K) []
-      go true f g c ih =
+          → Reads A K [] (cond m S [] ++ (L ++ R)) (later 72 total K) []
+      go true f g c w ih =
           let K₁ : Known = declaring A (texel i) K in
           let u : Has K K₁ = has-more A (texel i) K in
           let t : T (K₁ .has (texel i)) = add-self (texel i) (K .has) in
           let x = e .isTextured .0 (marked-bound alive s r (e .enabled .0) (g tt)) in
-          sample-reads sprite rows total i before (lookupOf v i) K (lodBias v) (bit projected i) (e .free)
+          let y = stages-texel v projected alive i s r (omega (arith, e .small)) (e .enabled .0) (g tt) in
+          sample-reads sprite rows total named i before (lookupOf v i) K (lodBias v) (bit projected i) (e .free)
           (record { small = omega (arith, e .small); isTexture = x .0; isSampler = x .1; isLod = e .isLod }) (e .base .isIn)
-          (e .behind (g tt))
+          (e .behind (g tt)) (w (texel i) (mentions-right S y)) (λ n x. w n (mentions-left _ x))
           ⨾ line-reads i s r K₁ K before u e (λ y. t)
           ⨾ loses (record { more = u; lower = omega arith; same = refl })
-          (ih K₁ (next-env i s r K K₁ before e u (omega arith) (λ y. t) (omega arith)))
-      go false f g c ih =
+          (ih K₁ (next-env i s r K K₁ before e u (omega arith) (λ y. t) (omega arith) (λ n x. w n (mentions-right S (mentions-right L x)))))
+      go false f g c w ih =
           line-reads i s r K K before (λ n t. t) e (λ y. absurd (f y)) ⨾ ih K
-          (next-env i s r K K before e (λ n t. t) (omega (arith, e .free)) (λ y. absurd (f y)) c)
+          (next-env i s r K K before e (λ n t. t) (omega (arith, e .free)) (λ y. absurd (f y)) c (λ n x. w n (mentions-right L x)))

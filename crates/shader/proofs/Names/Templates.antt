@@ -1,5 +1,5 @@
 -- A template filled with fragments is a fragment: one proof for all templates, over their pieces.
-use Prim.Native.Nat.{ℕ, _<_, _≤_}
+use Prim.Native.Nat.{ℕ, _<_}
 use Prim.Native.String.{String}
 use mathlib.Core.Path.{_≡_, refl, ap, sym, _∙_, subst}
 use mathlib.Core.List.{List, [], _∷_, _++_}
@@ -11,7 +11,7 @@ use Rattle.values.specs.Listed.{Name}
 use Rattle.shader.specs.Names.{Token, tokens, follows, declares, Occurrence, declaration, usage, row}
 use Rattle.shader.proofs.Names.Truth.{and-fst, and-snd, inl, inr, either}
 use Rattle.shader.proofs.Names.Scan.{scan, breaks, ended, after, settled, tokens-append, scan-append}
-use Rattle.shader.proofs.Names.Check.{Aim, Known, Holds, declaring}
+use Rattle.shader.proofs.Names.Check.{Aim, Known, Free, Holds, declaring}
 use Rattle.shader.proofs.Names.Words.{Word}
 use Rattle.shader.proofs.Names.Frag.{Has, has-more, Reads, literal, append, Frag, opens, opens-append, pick-frag}
 
@@ -87,14 +87,19 @@ endsAll [] = false
 endsAll (p ∷ []) = endsPiece p
 endsAll (p ∷ (q ∷ r)) = endsAll (q ∷ r)
 
-same→eq : (v w : List ℕ) → T (same v w) → v ≡ w
-same→eq [] [] t = refl
-same→eq [] (y ∷ w) t = absurd t
-same→eq (x ∷ v) [] t = absurd t
-same→eq (x ∷ v) (y ∷ w) t =
+pub same-bytes : (v w : List ℕ) → T (same v w) → v ≡ w
+same-bytes [] [] t = refl
+same-bytes [] (y ∷ w) t = absurd t
+same-bytes (x ∷ v) [] t = absurd t
+same-bytes (x ∷ v) (y ∷ w) t =
     let p : x ≡ y = eqb→eq x y (and-fst (eqb x y) _ t) in
-    let q : v ≡ w = same→eq v w (and-snd (eqb x y) _ t) in
+    let q : v ≡ w = same-bytes v w (and-snd (eqb x y) _ t) in
     cc
+
+-- no word goes on from a piece to the text behind it, whatever follows
+pub seam : (p : Piece) (t : Text) (r : List ℕ) → T (endsPiece p || opens (flat t)) → T (endsPiece p || breaks (flat t ++ r))
+seam p t r =
+    either (endsPiece p) (opens (flat t)) (λ e. inl (endsPiece p) _ e) (λ o. inr (endsPiece p) _ (opens-append (flat t) r o))
 
 module _ (A : Aim) (K K′ : Known) (u : Has K K′) where
   words-read : (w r : List ℕ) (X : Type 0) → T (whole w) → T (ended w || breaks r) → Uses A K (scan [] (tokens w)) X
@@ -113,7 +118,7 @@ module _ (A : Aim) (K K′ : Known) (u : Has K K′) where
       → Holds A K′ (scan [] (tokens (flat t ++ r)))
   piece-read (slot v) t r X f s n k = n .0 .reads K′ u r s (k (n .1))
   piece-read (words w) t r X f s n k =
-      rw (same→eq (flat t) w (and-fst (same (flat t) w) _ f)) (words-read w r X (and-snd (same (flat t) w) _ f) s n k)
+      rw (same-bytes (flat t) w (and-fst (same (flat t) w) _ f)) (words-read w r X (and-snd (same (flat t) w) _ f) s n k)
 
   pieces-read : (ps : List Piece) (t : Text) → T (fits ps t) → Needs A K ps t → (r : List ℕ) → T (endsAll ps || breaks r)
       → Holds A K′ (scan [] (tokens r)) → Holds A K′ (scan [] (tokens (flat t ++ r)))
@@ -123,11 +128,9 @@ module _ (A : Aim) (K K′ : Known) (u : Has K K′) where
   pieces-read (p ∷ (q ∷ ps)) (pick b s t) f n r c k = absurd f
   pieces-read (p ∷ (q ∷ ps)) (s ⊕ t) f n r c k =
       let here = and-fst (fitsPiece p s && (endsPiece p || opens (flat t))) (fits (q ∷ ps) t) f in
-      let seam : T (endsPiece p || breaks (flat t ++ r)) =
-      either (endsPiece p) (opens (flat t)) (λ e. inl (endsPiece p) _ e) (λ o. inr (endsPiece p) _ (opens-append (flat t) r o))
-      (and-snd (fitsPiece p s) _ here) in
       append A K′ [] (flat s) (flat t) r
-      (piece-read p s (flat t ++ r) (Needs A K (q ∷ ps) t) (and-fst (fitsPiece p s) _ here) seam n
+      (piece-read p s (flat t ++ r) (Needs A K (q ∷ ps) t) (and-fst (fitsPiece p s) _ here)
+      (seam p t r (and-snd (fitsPiece p s) _ here)) n
       (λ m. pieces-read (q ∷ ps) t (and-snd (fitsPiece p s && (endsPiece p || opens (flat t))) (fits (q ∷ ps) t) f) m r c k))
 
 pub pieces-frag : (A : Aim) (K : Known) (ps : List Piece) (t : Text) → T (fits ps t) → Needs A K ps t → Frag A K t
@@ -165,7 +168,7 @@ introduces w =
     && (ended w && (settled (tokens w) && isEmpty (scan [] (tokens w))))
 
 pub declared-read : {A : Aim} {K K′ : Known} {b : List Token} {n : Name} (w : List ℕ) {x y : List ℕ} → T (introduces w) → Word x n
-    → K .next ≤ A .rank n → T (opens y)
+    → Free A K n → T (opens y)
     → Reads A (declaring A n K) [] y K′ b → Reads A K [] (w ++ (x ++ y)) K′ b
 declared-read {A} {K} {n = n} w {x} {y} t W p o h =
     literal λ r k. append A K [] w (x ++ y) r
@@ -206,7 +209,7 @@ fitsLine ps t =
     && (opens (flat (right (right t))) && (fits (behindName ps) (right (right t)) && endsAll (behindName ps))))
 
 pub line-reads : {A : Aim} {K : Known} {n : Name} (s : String) (t : Text) → T (fitsLine (cut s) t) → Word (flat (left (right t))) n
-    → K .next ≤ A .rank n
+    → Free A K n
     → Needs A K (behindName (cut s)) (right (right t)) → Reads A K [] (flat t) (declaring A n K) []
 line-reads s (raw x) f W p m = absurd f
 line-reads s (pick b t u) f W p m = absurd f
@@ -218,7 +221,7 @@ line-reads {A} {K} {n} s (t ⊕ (x ⊕ y)) f W p m =
     let f₁ = and-snd (same (flat t) front) _ f in
     let f₂ = and-snd (introduces front) _ f₁ in
     let f₃ = and-snd (opens (flat y)) _ f₂ in
-    rw (same→eq (flat t) front (and-fst (same (flat t) front) _ f))
+    rw (same-bytes (flat t) front (and-fst (same (flat t) front) _ f))
     (declared-read front (and-fst (introduces front) _ f₁) W p (and-fst (opens (flat y)) _ f₂)
     (literal λ r k. pieces-read A K (declaring A n K) (has-more A n K) behind y (and-fst (fits behind y) _ f₃) m r
     (inl (endsAll behind) _ (and-snd (fits behind y) _ f₃)) k))

@@ -37,6 +37,14 @@ pub either {ℓ} : {C : Type ℓ} (a b : Bool) → (T a → C) → (T b → C) �
 either true b f g t = f tt
 either false b f g t = g t
 
+pub other : (a b : Bool) → T (a || b) → T (not a) → T b
+other true b t n = absurd n
+other false b t n = t
+
+pub implied : (a b : Bool) → T (not a || b) → T a → T b
+implied true b t s = t
+implied false b t s = absurd s
+
 pub neither-fst : (a b : Bool) → T (not (a || b)) → T (not a)
 neither-fst true b t = t
 neither-fst false b t = tt

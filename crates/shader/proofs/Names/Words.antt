@@ -11,8 +11,7 @@ use Rattle.text.specs.Text.{Text, raw, bytes, flat, decimalOf}
 use Rattle.text.specs.Format.{same}
 use Rattle.values.specs.Entries.{isDigit, continuesName}
 use Rattle.values.specs.Listed.{Name, name, listed}
-use Rattle.shader.specs.Names.{Token, word, mark, tokens, follows, startsDigit, declares, Occurrence, declaration, usage, row, numberFrom, rowOf}
-use Rattle.shader.specs.Demand.{sameName}
+use Rattle.shader.specs.Names.{sameName, Token, word, mark, tokens, follows, startsDigit, declares, Occurrence, declaration, usage, row, numberFrom, rowOf}
 use Rattle.shader.proofs.Names.Truth.{true-of, false-of, and-fst, and-snd, both, inr, below, below-at, cond-cases}
 use Rattle.shader.proofs.Names.Scan.{scan, breaks, letters, matters, ended, tokens-append, tokens-letters}
 use Rattle.shader.proofs.Names.Check.{Aim, Known, Holds, same→eq}
@@ -34,9 +33,13 @@ names→eq n (some m) t = ap some (sym (same→eq n m t))
 abbrev pub isWordOf : List Token → Name → List ℕ → Bool
 isWordOf b n w = (letters w && not (startsDigit w)) && (names n (listed w) && (not (same (bytes "ps_c") w) && not (matters (word w ∷ b))))
 
--- how the word is read behind nothing that matters, and behind what declares it
+-- what stands before a word declares nothing and is no full stop
+abbrev pub plain : List Token → Bool
+plain b = not (declares b) && not (follows (bytes ".") b)
+
+-- how the word is read behind what is plain, and behind what declares it
 pub record Word (w : List ℕ) (n : Name) : Type 0 where
-  pub used : (r : List ℕ) → T (breaks r) → scan [] (tokens (w ++ r)) ≡ usage n ∷ scan [] (tokens r)
+  pub used : (b : List Token) → T (plain b) → (r : List ℕ) → T (breaks r) → scan b (tokens (w ++ r)) ≡ usage n ∷ scan [] (tokens r)
   pub bound : (b : List Token) → T (declares b && not (follows (bytes ".") b)) → (r : List ℕ) → T (breaks r)
       → scan b (tokens (w ++ r)) ≡ declaration n ∷ scan [] (tokens r)
 
@@ -62,7 +65,9 @@ pub word-of : (n : Name) (w : List ℕ) → ((b : List Token) → T (isWordOf b 
 word-of n [] h = absurd (h [])
 word-of n (c ∷ v) h =
     record {
-      used = λ r s. ap (scan []) (word-tokens c v r spelt s) ∙ word-scan [] n (c ∷ v) (h []) tt (tokens r);
+      used =
+          λ b p r s. ap (scan b) (word-tokens c v r spelt s) ∙ word-scan b n (c ∷ v) (h b) (and-snd (not (declares b)) _ p) (tokens r)
+          ∙ rw (false-of (declares b) (and-fst (not (declares b)) _ p));
       bound =
           λ b d r s. ap (scan b) (word-tokens c v r spelt s) ∙ word-scan b n (c ∷ v) (h b) (and-snd (declares b) _ d) (tokens r)
           ∙ rw (true-of (declares b) (and-fst (declares b) _ d));
@@ -82,7 +87,7 @@ family k s h i l =
     word-of (name k i) (s ++ ((48 + i) ∷ [])) (λ b. below-at (λ j. isWordOf b (name k j) (s ++ ((48 + j) ∷ []))) 8 i (h b) l)
 
 pub name-frag : {A : Aim} {K : Known} {t : Text} {n : Name} → Word (flat t) n → T (K .has n) → Frag A K t
-name-frag {A} {n = n} W h = record { reads = λ K′ u r s k. subst (Holds A K′) (sym (W .used r s)) (u n h, k) }
+name-frag {A} {n = n} W h = record { reads = λ K′ u r s k. subst (Holds A K′) (sym (W .used [] tt r s)) (u n h, k) }
 
 -- a field: a word behind a full stop
 abbrev pub isField : List ℕ → Bool

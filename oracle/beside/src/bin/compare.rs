@@ -4,7 +4,7 @@
 //! Each accepted triple goes into four buffers: as long as its text, one byte shorter, longer, and of no byte (or any shorter one). Refused triples,
 //! and keys, variants and entries of any bytes, stand among the random ones. Every byte of the buffer is compared, in front of it and behind it too,
 //! with a pattern that the buffer holds before the call, and every number of the result with those that it holds before. In each text the names, rows
-//! and lookups must fit, by 01's rules of names (demand 3).
+//! and lookups must fit, by 01's rules of names (demand 3), and no local may be idle.
 //!
 //! First the comparison is shown to fail: wrong functions are put in the place of the archive's, and each must be found. Prints the counts and the
 //! first differences; the exit status is 1 if there is any, or if a wrong function passes.
@@ -15,7 +15,7 @@ use beside::{Answer, Bodies, Emit, Lent, Report, emitted};
 use oraclelib::{
     Outcome, emit,
     generate::{self, Rng},
-    names::demand_3,
+    names::{demand_3, no_idle},
     records::{ENTRY, KEY, Key, Refusal, TRIPLE, Triple, Variant, WIDE_KEY, WIDE_TRIPLE},
     rules, words,
 };
@@ -154,7 +154,8 @@ impl<'a, F: Functions> Run<'a, F> {
         let o = emit(triple);
         self.triples += 1;
         self.three_operands += u64::from(rules::has_three_operands(&triple.key));
-        if let Err(e) = demand_3(&o, rules::marks(&triple.key)) {
+        let fits = demand_3(&o, rules::marks(&triple.key));
+        if let Err(e) = fits.and_then(|()| no_idle(&o.text)) {
             self.differ(|| println!("names of {triple:?}: {e}"));
         }
         if triple.key.is_wide() {

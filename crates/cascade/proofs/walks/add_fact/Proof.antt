@@ -37,6 +37,5 @@ add-fact-spec {M} =
     let test = tie.spec {M = M} (λ c κs. tt) in
     let masks = test (λ c κs. tt) (λ c κs. search needs) (λ c κs. tt) (λ c κs. tt) in
     let quick = masks (λ c κs. search needs) (λ c κs. search needs) (λ c κs. search needs) plain in
-    let rows = quick (λ c κs. tt) (λ c κs. search needs) (λ c κs. search needs) (λ c κs. tt) (λ c κs. tt) (λ c κs. tt) in
-    let ops = rows (λ c κs. tt) (λ c κs. search needs) in
-    tie.close (ops (λ c κs. tt) (λ c κs. search needs) (λ c κs. tt) (λ c κs. search needs) (λ c. cc))
+    let rows = quick (λ c κs. tt) (λ c κs. tt) (λ c κs. search needs) (λ c κs. search needs) (λ c κs. tt) (λ c κs. tt) (λ c κs. tt) in
+    tie.close (rows (λ c κs. search needs) (λ c κs. search needs) (λ c κs. search needs) (λ c. cc))

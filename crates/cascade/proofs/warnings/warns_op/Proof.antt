@@ -15,8 +15,8 @@ neither-warns c =
 applied : tie.Need-returns-2
 unfolding warns
 applied c =
-    let alpha = c .before .before in
-    rw (c .counts .ensures, alpha .before .without-text .ensures, alpha .without-text2 .ensures)
+    let alpha = c .before .before .before in
+    rw (c .before .applies-colour .ensures, c .applies-alpha .ensures, alpha .before .without-text .ensures, alpha .without-text2 .ensures)
 
 pub warns-op-spec : {M : Type 1} → statement M
-warns-op-spec = tie.close (tie.spec (λ c κs. tt) (λ c κs. tt) neither-warns (λ c κs. tt) applied)
+warns-op-spec = tie.close (tie.spec (λ c κs. tt) (λ c κs. tt) neither-warns (λ c κs. tt) (λ c κs. tt) applied)

@@ -15,7 +15,7 @@ emit-values-requires c κs =
     let v = e .before .before in
     let k = v .before .before in
     let s1 = k .before in
-    held-admitted _ (k .held-key .ensures) (v .variant-from-body .ensures) (e .entry-from-body .ensures)
+    held-admitted _ (k .held-in-place .ensures) (v .variant-from-body .ensures) (e .entry-from-body .ensures)
     (sym (s1 .before .holds-all .ensures) ∙ not-false _ (s1 .if1 .left))
 
 returns-2 : tie.Need-returns-2
@@ -25,7 +25,7 @@ returns-2 c =
     let v = e .before .before in
     let k = v .before .before in
     let s1 = k .before in
-    held-emitted _ _ _ (s1 .before .holds-all .ensures) (not-false _ (s1 .if1 .left)) (k .held-key .ensures) (v .variant-from-body .ensures)
+    held-emitted _ _ _ (s1 .before .holds-all .ensures) (not-false _ (s1 .if1 .left)) (k .held-in-place .ensures) (v .variant-from-body .ensures)
     (e .entry-from-body .ensures) (m .emit-values .ensures)
 
 pub emit-held-spec : {M : Type 1} → statement M

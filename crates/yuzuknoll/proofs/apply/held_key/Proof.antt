@@ -1,16 +1,17 @@
 -- The kind byte tells which kind of key the body is read as.
-use Rattle.yuzuknoll.specs.Applying.{heldWide, heldOf}
-use Rattle.yuzuknoll.proofs.Applying.{key-fits}
+use borrow.Author.Tests.{ne-eqb}
+use Rattle.yuzuknoll.specs.Applying.{heldOf}
 use borrow.Author.Needs.{needs}
 use Rattle.yuzuknoll.proofs.apply.held_key.Statement.{statement}
 use Rattle.yuzuknoll.proofs.apply.held_key.Tie as tie
 
-key-from-body-requires : tie.Need-key-from-body-requires
-key-from-body-requires c κs = let s = c .before .before .before in key-fits (heldWide (s .args .held .now)) (search needs)
-
 returns : tie.Need-returns
 unfolding heldOf
-returns c = c .key-from-body .ensures
+returns c = rw (c .before .before .if1 .taken) (c .wide-key .ensures)
+
+returns-2 : tie.Need-returns-2
+unfolding heldOf
+returns-2 c = rw (ne-eqb _ _ (c .before .before .if1 .left)) (c .narrow-key .ensures)
 
 pub held-key-spec : {M : Type 1} → statement M
 held-key-spec =
@@ -20,5 +21,10 @@ held-key-spec =
     (λ c. search needs)
     (λ c. search needs)
     (λ c. search needs)
-    key-from-body-requires
-    returns)
+    (λ c κs. search needs)
+    returns
+    (λ c. search needs)
+    (λ c. search needs)
+    (λ c. search needs)
+    (λ c κs. search needs)
+    returns-2)

@@ -1,0 +1,27 @@
+-- The kind byte tells which kind of key the body is read as.
+use borrow.Author.Tests.{ne-eqb}
+use borrow.Author.Needs.{needs}
+use Rattle.yuzuknoll.proofs.apply.held_in_place.Statement.{statement}
+use Rattle.yuzuknoll.proofs.apply.held_in_place.Tie as tie
+
+returns : tie.Need-returns
+returns c = rw (c .before .before .if1 .taken) (c .wide-key .ensures)
+
+returns-2 : tie.Need-returns-2
+returns-2 c = rw (ne-eqb _ _ (c .before .before .if1 .left)) (c .narrow-in-place .ensures)
+
+pub held-in-place-spec : {M : Type 1} → statement M
+held-in-place-spec =
+    tie.close
+    (tie.spec
+    (λ c. search needs)
+    (λ c. search needs)
+    (λ c. search needs)
+    (λ c. search needs)
+    (λ c κs. search needs)
+    returns
+    (λ c. search needs)
+    (λ c. search needs)
+    (λ c. search needs)
+    (λ c κs. search needs)
+    returns-2)
