@@ -277,6 +277,11 @@ uint64_t yuzuknoll_entry_possible(const uint64_t state[3]);
 /* No text has more bytes than this, so a buffer of this length takes every text. */
 #define YUZUKNOLL_TEXT_LENGTH 16384
 
+/* The lengths of the longest text of a yuzuknoll_key and of the longest one of a yuzuknoll_wide_key, with an entry of 32
+ * bytes. With an entry of n bytes the longest text is 32 - n bytes shorter. A slot for texts of both needs the second. */
+#define YUZUKNOLL_KEY_TEXT_LENGTH 6516
+#define YUZUKNOLL_WIDE_KEY_TEXT_LENGTH 6657
+
 /* What yuzuknoll_emit and yuzuknoll_emit_wide report of a text. In the four masks bit i is for stage i, and the other bits are 0.
  *
  * A warning is no refusal: there is a text. One bit is for the colour and the alpha of its stage:

@@ -60,5 +60,11 @@ pub use wide::{HeldKey, WideKey, WideStage};
 /// No text has more bytes than this, so a buffer of this length takes every text.
 pub const TEXT_LENGTH: usize = 16_384;
 
+/// The length of the longest text of a [`Key`], with an entry of 32 bytes. With an entry of n bytes the longest text is 32 - n bytes shorter.
+pub const KEY_TEXT_LENGTH: usize = 6_516;
+
+/// The length of the longest text of a [`WideKey`], with an entry of 32 bytes. With an entry of n bytes the longest text is 32 - n bytes shorter.
+pub const WIDE_KEY_TEXT_LENGTH: usize = 6_657;
+
 /// The version of this crate and of the archive.
 pub const VERSION: &str = env!("CARGO_PKG_VERSION");

@@ -3,9 +3,9 @@
 use std::{collections::BTreeMap, mem::offset_of};
 
 use yuzuknoll::{
-    Argument, Combiner, Comparison, Entry, FogMode, Key, Kind, Op, Refusal, Register, STAGES,
-    Stage, StageFlags, State, StateWrite, TEXT_LENGTH, VERSION, Variant, VariantFlags, WideKey,
-    WideStage, raw,
+    Argument, Combiner, Comparison, Entry, FogMode, KEY_TEXT_LENGTH, Key, Kind, Op, Refusal,
+    Register, STAGES, Stage, StageFlags, State, StateWrite, TEXT_LENGTH, VERSION, Variant,
+    VariantFlags, WIDE_KEY_TEXT_LENGTH, WideKey, WideStage, raw,
 };
 
 const HEADER: &str = include_str!("../../include/yuzuknoll.h");
@@ -162,6 +162,8 @@ fn named() -> BTreeMap<&'static str, u64> {
         ("MASK_VOLUME", mask(offset_of!(Variant, volume))),
         ("MASK_CUBE", mask(offset_of!(Variant, cube))),
         ("TEXT_LENGTH", TEXT_LENGTH as u64),
+        ("KEY_TEXT_LENGTH", KEY_TEXT_LENGTH as u64),
+        ("WIDE_KEY_TEXT_LENGTH", WIDE_KEY_TEXT_LENGTH as u64),
         ("HELD_LENGTH", raw::HELD_LENGTH as u64),
         ("HELD_KEY", 0),
         ("HELD_VARIANT", 75),

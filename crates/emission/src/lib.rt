@@ -29,11 +29,11 @@ ghost use Rattle.values.specs.Admitted.{Admitted};
 // D3DCMP_ALWAYS, the last comparison that Direct3D 9 names.
 const ALWAYS: u8 = 8;
 
-// No text is longer.
-const MOST_TEXT: usize = 16384;
+// The longest text, of a key of kind 6 with an entry of 32 bytes.
+const MOST_TEXT: usize = 6657;
 
-// Writes the text of a key with the stages that take effect to the front of out, if it fits; else out stays. No text is longer than 16,384 bytes: a
-// buffer of that length takes it at once, and for a shorter one it is written aside.
+// Writes the text of a key with the stages that take effect to the front of out, if it fits; else out stays. A buffer as long as the longest text takes
+// it at once, and for a shorter one it is written aside.
 fn put_text(out: &mut [u8], k: Key, v: Variant, e: Entry, u: Survey) -> Place
     requires { ⌜ (u ≡ surveyOf (k .stages)) × (e .len ≤ 32) ⌝ }
     ensures place { λ r. ⌜ r .at ≡ length (flat (wholeText k v e)) ⌝ }

@@ -15,7 +15,7 @@ use Rattle.states.specs.Types.{isType, takes}
 use Rattle.states.specs.States.{defaults}
 use Rattle.states.specs.Writes.{stateWriteNumber}
 use Rattle.states.proofs.Keys.{defaults-eight, kept}
-use Rattle.shader.proofs.Length.{never-eight}
+use Rattle.lengths.proofs.Room.{never-eight}
 use Rattle.wire.specs.Bodies.{bodyLength, specularByte, keyFromBody, variantFromBody, entryFromBody, stateFromBody}
 use Rattle.wire.specs.Values.{blankKey}
 use Rattle.wire.specs.Reading.{keyNumber, bodyNumber, recordNumber, readRecord}
@@ -103,7 +103,7 @@ module _ (h : Held) (stages : EightStages h) (room : ℕ) (enough : 16384 ≤ ro
   emit-number : NotEight (emitNumber h room)
   unfolding emitNumber
   emit-number =
-      neither (holdsAll h) _ 7 (ne-eqb _ _ (never-eight (h .key) (h .variant) (h .entry) (omega (arith, stages)) room enough)) refl
+      neither (holdsAll h) _ 7 (ne-eqb _ _ (never-eight (h .key) (h .variant) (h .entry) room (omega (arith, stages)) enough)) refl
 
   number : (b : List ℕ) → NotEight (appliedNumber h b room)
   unfolding appliedNumber

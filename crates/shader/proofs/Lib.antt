@@ -1,5 +1,4 @@
 pub mod Names
 pub mod Numbers
-pub mod Length
 pub mod Examples
 pub mod Narrow

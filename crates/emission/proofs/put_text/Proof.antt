@@ -1,16 +1,17 @@
--- A buffer of 16,384 bytes takes the text at once; for a shorter one the text is written aside, where it fits, and copied from there if it fits.
+-- A buffer as long as the longest text takes the text at once; for a shorter one the text is written aside, where it fits, and copied from there if it fits.
 use Prim.Native.Nat.{ℕ, _≤_, _<_}
 use mathlib.Core.Path.{_≡_, refl, sym, _∙_}
 use mathlib.Core.List.{List}
 use native.Mathlib.Nat.{le-trans}
 use native.Mathlib.Omega.{arith}
 use borrow.Author.Needs.{needs}
-use lib.ListN.{length, length-map}
+use lib.ListN.{length, length-map, length-take}
 use lib.Seq.{length-take-le}
 use Rattle.text.specs.Text.{flat}
 use Rattle.text.proofs.Laws.{keeps}
 use Rattle.shader.specs.Whole.{wholeText}
-use Rattle.shader.proofs.Length.{at-most}
+use Rattle.lengths.proofs.Longest.{whole-at-most}
+use Rattle.values.specs.Entries.{nameOf}
 use Rattle.emission.proofs.Answers.{placed, copied}
 use Rattle.emission.proofs.put_text.Statement.{statement}
 use Rattle.emission.proofs.put_text.Tie as tie
@@ -20,13 +21,15 @@ module _ (s : tie.Start) where
   text = flat (wholeText (s .args .k) (s .args .v) (s .args .e))
 
   -- the stages and the name of a value have the lengths of their types
-  short : length text ≤ 16384
+  short : length text ≤ 6657
   short =
       let k = s .args .k in
       let e = s .args .e in
       let stages : length (k .stages) ≡ 8 = sym (length-map (k .stages) _) ∙ s .good .1 .0 .1 .1 .0 .1 .0 .1 in
-      let name : length (e .name) ≡ 32 = sym (length-map (e .name) _) ∙ s .good .1 .1 .1 .0 .1 .1 .1 .0 .1 .0 .1 in
-      at-most k (s .args .v) e (omega (arith, stages)) (omega (arith, name))
+      let v = s .args .v in
+      let mask : v .«sample_mask» < 256 = search needs in
+      let name : length (nameOf e) ≤ 32 = simp length-take (omega (arith, s .pre .1)) in
+      le-trans (whole-at-most k v e mask (omega (arith, stages))) (omega arith)
 
 returns : tie.Need-returns
 returns c =

@@ -19,7 +19,7 @@ use oraclelib::{
     records::{ENTRY, KEY, Key, Refusal, TRIPLE, Triple, Variant, WIDE_KEY, WIDE_TRIPLE},
     rules, words,
 };
-use yuzuknoll::{TEXT_LENGTH, raw::Emitted};
+use yuzuknoll::{TEXT_LENGTH, WIDE_KEY_TEXT_LENGTH, raw::Emitted};
 
 const SEED: u64 = 1;
 const COUNT: u64 = 20_000;
@@ -27,6 +27,8 @@ const COUNT: u64 = 20_000;
 const SELF_TEST: u64 = 1_500;
 /// How many differences are printed.
 const SHOWN: u64 = 10;
+/// Lengths of long buffers: the last is a byte short of the longest text.
+const LONG: [usize; 3] = [TEXT_LENGTH, WIDE_KEY_TEXT_LENGTH, WIDE_KEY_TEXT_LENGTH - 1];
 
 fn main() -> ExitCode {
     let args: Vec<u64> = std::env::args()
@@ -172,7 +174,7 @@ impl<'a, F: Functions> Run<'a, F> {
         let too_long = Err(Refusal::LongText);
         let text = o.text.as_bytes();
         let longer = if self.rng.one_in(2) {
-            TEXT_LENGTH.max(text.len())
+            self.rng.pick(&LONG).max(text.len())
         } else {
             text.len() + 1 + self.rng.below(300)
         };
