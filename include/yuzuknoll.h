@@ -35,9 +35,9 @@
 extern "C" {
 #endif
 
-#define YUZUKNOLL_VERSION "0.11.0"
+#define YUZUKNOLL_VERSION "0.13.0"
 #define YUZUKNOLL_VERSION_MAJOR 0
-#define YUZUKNOLL_VERSION_MINOR 11
+#define YUZUKNOLL_VERSION_MINOR 13
 #define YUZUKNOLL_VERSION_PATCH 0
 
 /* ---- Refusals ---- */

@@ -49,7 +49,8 @@ const tests = {
         // The header has no name for the lack of flags and of a comparison.
         for (const group of ["CMP", "STAGE", "VARIANT"]) found[group].NONE = 0;
         for (const group of Object.keys(groups)) assert.deepEqual({ ...groups[group] }, found[group], group);
-        assert.match(header, new RegExp(`^#define YUZUKNOLL_TEXT_LENGTH ${TEXT_LENGTH}$`, "m"));
+        for (const name of ["TEXT_LENGTH", "KEY_TEXT_LENGTH", "WIDE_KEY_TEXT_LENGTH"])
+            assert.match(header, new RegExp(`^#define YUZUKNOLL_${name} ${yuzuknoll[name]}$`, "m"));
     },
 
     "the types have the same numbers": () => {

@@ -121,6 +121,12 @@ const CAUSES = Object.freeze({
 /** No text has more bytes than this, so a buffer of this length takes every text. */
 export const TEXT_LENGTH = 16384;
 
+/** The length of the longest text of a key, with an entry of 32 bytes. With an entry of n bytes the longest text is 32 - n bytes shorter. */
+export const KEY_TEXT_LENGTH = 6516;
+
+/** The length of the longest text of a wide key, with an entry of 32 bytes. With an entry of n bytes the longest text is 32 - n bytes shorter. */
+export const WIDE_KEY_TEXT_LENGTH = 6657;
+
 /** How many stages a key has. */
 export const STAGES = 8;
 

@@ -186,8 +186,8 @@ fn named() -> BTreeMap<&'static str, u64> {
 #[test]
 fn every_number_is_named_here_and_there() {
     let mut defined = defined();
-    assert_eq!(defined.remove("VERSION"), Some("\"0.11.0\""));
-    assert_eq!(VERSION, "0.11.0");
+    assert_eq!(defined.remove("VERSION"), Some("\"0.13.0\""));
+    assert_eq!(VERSION, "0.13.0");
     // the guard of the header
     assert_eq!(defined.remove("H"), None);
     let numbers: BTreeMap<&str, u64> = defined
