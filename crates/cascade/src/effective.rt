@@ -29,7 +29,7 @@ fn narrow_combiner(c: Combiner) -> Combiner
     }
 }
 
-pub fn narrow_stage(s: Stage) -> Stage
+fn narrow_stage(s: Stage) -> Stage
     ensures { λ r. ⌜ r ≡ narrowStage s ⌝ }
 {
     let colour = narrow_combiner(s.colour);

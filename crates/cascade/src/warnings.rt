@@ -12,7 +12,6 @@ use combiners::warnings::without_text;
 use values::Combiner;
 use values::Stage;
 ghost use mathlib.Core.Path.{_≡_};
-ghost use mathlib.Core.Bool.{_&&_, _||_};
 ghost use Rattle.combiners.specs.Warnings.{opCause, selectorCause, modifierCause};
 ghost use Rattle.cascade.specs.Warnings.{appliesColour, appliesAlpha};
 ghost use Rattle.cascade.specs.Walks.{gives, warns};

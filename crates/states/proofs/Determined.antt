@@ -15,7 +15,7 @@ use Rattle.values.specs.declared.StateWrite.{StateWrite}
 use Rattle.values.specs.Flags.{stageFlagsBad}
 use Rattle.states.specs.Types.{colourOp, colourArg1, colourArg2, colourArg0, alphaOp, alphaArg1, alphaArg2, alphaArg0, resultArg, textureBound}
 use Rattle.values.specs.Kinds.{defaultArg0, sevenBytes}
-use Rattle.states.specs.States.{defaultStage, getState, resultArgOf, stageIn, stageState, wideStages}
+use Rattle.states.specs.States.{defaultStage, getState, resultArgOf, stageAt, stageState, wideStages}
 use Rattle.states.specs.Writes.{anyWidens, lastWritten, writesApplied}
 use Rattle.states.proofs.Stages.{no-spare}
 use Rattle.states.proofs.Widening.{wide-stage}
@@ -74,14 +74,14 @@ alike {k} {l} a =
     ext-getD (defaultStage 1 1) (k .stages) (l .stages) (a .left ∙ sym (a .right))
     (λ i h.
     let below : i < 8 = omega (arith, a .left) in
-    stage-determined (k .wide) (stageIn i (k .stages)) (stageIn i (l .stages))
+    stage-determined (k .wide) (stageAt i (k .stages)) (stageAt i (l .stages))
     (λ t. rw (wide-stage i k, wide-stage i l, ← a .kind) at (a .states i t below)) (a .flags i below) (λ n. a .unread n i below)) in
     λ i. record { stages = stages i; «specular_add» = a .specular i; projected = a .projected i; wide = a .kind i }
 
 -- in a kind 1 key whose stages are those of kind 6, the default stands in the places of arguments 0
 default-unread : (i : ℕ) (k : Key) → wideStages k ≡ k .stages → k .wide ≡ false → unread i k ≡ (defaultArg0, defaultArg0)
 default-unread i k d n =
-    ap arguments0 (ap (stageIn i) (sym d) ∙ wide-stage i k) ∙ rw n
+    ap arguments0 (ap (stageAt i) (sym d) ∙ wide-stage i k) ∙ rw n
 
 -- keys that are free of cause 3 have no such bits, and those that a record gives have the default for what stands unread
 pub determined : (k l : Key) → length (k .stages) ≡ 8 → length (l .stages) ≡ 8 → stageFlagsBad (k .stages) ≡ false → stageFlagsBad (l .stages) ≡ false

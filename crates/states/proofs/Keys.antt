@@ -14,7 +14,7 @@ use Rattle.values.specs.declared.StateWrite.{StateWrite}
 use Rattle.values.specs.Flags.{stageFlagsBad}
 use Rattle.states.specs.Types.{alphaArg0, colourArg0, setsArg0}
 use Rattle.values.specs.Kinds.{sevenBytes}
-use Rattle.states.specs.States.{defaultStage, defaults, getState, setStage, setState, stageIn, stageState, stagesFor, wideStages}
+use Rattle.states.specs.States.{defaultStage, defaults, getState, setStage, setState, stageAt, stageState, stagesFor, wideStages}
 use Rattle.states.specs.Writes.{accepted, widens, writes, writeApplied}
 use Rattle.states.proofs.Bits.{flags-after}
 use Rattle.states.proofs.Stages.{neither, no-spare, spare-free, stage-after}
@@ -22,12 +22,12 @@ use Rattle.states.proofs.Widening.{for-length, setIn, wide-after, wide-
 use Rattle.states.proofs.Accepted.{Accepted, free}
 
 -- stage j after a write at stage i
-stage-after-set : (i j t v : ℕ) (l : List Stage) → i < length l → stageIn j (setIn i t v l) ≡ cond (eqb i j) (setStage t v (stageIn j l)) (stageIn j l)
+stage-after-set : (i j t v : ℕ) (l : List Stage) → i < length l → stageAt j (setIn i t v l) ≡ cond (eqb i j) (setStage t v (stageAt j l)) (stageAt j l)
 stage-after-set i j t v l h = go (eqb i j) refl
   where
-    go : (b : Bool) → eqb i j ≡ b → stageIn j (setIn i t v l) ≡ cond b (setStage t v (stageIn j l)) (stageIn j l)
-    go true e = let z = eqb-true i j e in rw (← z) (getD-set-same l i (setStage t v (stageIn i l)) (defaultStage 1 1) h)
-    go false e = getD-set-other l i j (setStage t v (stageIn i l)) (defaultStage 1 1) (λ z. eqb-false i j e (sym z))
+    go : (b : Bool) → eqb i j ≡ b → stageAt j (setIn i t v l) ≡ cond b (setStage t v (stageAt j l)) (stageAt j l)
+    go true e = let z = eqb-true i j e in rw (← z) (getD-set-same l i (setStage t v (stageAt i l)) (defaultStage 1 1) h)
+    go false e = getD-set-other l i j (setStage t v (stageAt i l)) (defaultStage 1 1) (λ z. eqb-false i j e (sym z))
 
 -- one write that is accepted, and one that may be refused
 pub one-set : (w : StateWrite) (k : Key) → length (k .stages) ≡ 8 → accepted w ≡ true → (i t : ℕ)
@@ -36,13 +36,13 @@ unfolding getState
 one-set w k eight e i t =
     let a = free w e in
     let below : w .stage < length (wideStages k) = omega (arith, a .stage, wide-length k) in
-    ap (λ (l : List Stage). stageState t (stageIn i l)) (wide-after (w .stage) (w .state) (w .value) k)
+    ap (λ (l : List Stage). stageState t (stageAt i l)) (wide-after (w .stage) (w .state) (w .value) k)
     ∙ ap (stageState t) (stage-after-set (w .stage) i (w .state) (w .value) (wideStages k) below) ∙ go (eqb (w .stage) i) a
   where
     go : (b : Bool) → Accepted w
-        → stageState t (cond b (setStage (w .state) (w .value) (stageIn i (wideStages k))) (stageIn i (wideStages k)))
-        ≡ cond (b && eqb (w .state) t) (w .value) (stageState t (stageIn i (wideStages k)))
-    go true a = stage-after (w .state) (w .value) (stageIn i (wideStages k)) (a .state) (a .value) t
+        → stageState t (cond b (setStage (w .state) (w .value) (stageAt i (wideStages k))) (stageAt i (wideStages k)))
+        ≡ cond (b && eqb (w .state) t) (w .value) (stageState t (stageAt i (wideStages k)))
+    go true a = stage-after (w .state) (w .value) (stageAt i (wideStages k)) (a .state) (a .value) t
     go false a = refl
 
 pub one-written : (w : StateWrite) (k : Key) → length (k .stages) ≡ 8 → (i t : ℕ)
@@ -65,32 +65,32 @@ one-kind w k = go (accepted w)
 
 -- the bits of a stage's flags that no type reaches
 abbrev pub spare : ℕ → Key → ℕ
-spare i k = stageIn i (k .stages) .flags / 4
+spare i k = stageAt i (k .stages) .flags / 4
 
 -- what stands in the places of arguments 0, which no type reaches in a kind 1 key
 abbrev pub arguments0 : Stage → ℕ × ℕ
 arguments0 s = (s .colour .arg0, s .alpha .arg0)
 
 abbrev pub unread : ℕ → Key → ℕ × ℕ
-unread i k = arguments0 (stageIn i (k .stages))
+unread i k = arguments0 (stageAt i (k .stages))
 
 module _ (w : StateWrite) (k : Key) (eight : length (k .stages) ≡ 8) (e : accepted w ≡ true) (i : ℕ) where
   a : Accepted w
   a = free w e
 
-  written : stageIn i (setState (w .stage) (w .state) (w .value) k .stages)
-      ≡ cond (eqb (w .stage) i) (setStage (w .state) (w .value) (stageIn i (stagesFor (w .state) k))) (stageIn i (stagesFor (w .state) k))
+  written : stageAt i (setState (w .stage) (w .state) (w .value) k .stages)
+      ≡ cond (eqb (w .stage) i) (setStage (w .state) (w .value) (stageAt i (stagesFor (w .state) k))) (stageAt i (stagesFor (w .state) k))
   unfolding setState
   written = stage-after-set (w .stage) i (w .state) (w .value) (stagesFor (w .state) k) (omega (arith, a .stage, for-length (w .state) k))
 
-  flags-for : stageIn i (stagesFor (w .state) k) .flags ≡ stageIn i (k .stages) .flags
+  flags-for : stageAt i (stagesFor (w .state) k) .flags ≡ stageAt i (k .stages) .flags
   flags-for = go (setsArg0 (w .state))
     where
-      kind : (wide : Bool) → cond wide (stageIn i (k .stages)) (sevenBytes (stageIn i (k .stages))) .flags ≡ stageIn i (k .stages) .flags
+      kind : (wide : Bool) → cond wide (stageAt i (k .stages)) (sevenBytes (stageAt i (k .stages))) .flags ≡ stageAt i (k .stages) .flags
       kind true = refl
       kind false = refl
 
-      go : (b : Bool) → stageIn i (cond b (wideStages k) (k .stages)) .flags ≡ stageIn i (k .stages) .flags
+      go : (b : Bool) → stageAt i (cond b (wideStages k) (k .stages)) .flags ≡ stageAt i (k .stages) .flags
       go true = ap (λ (s : Stage). s .flags) (wide-stage i k) ∙ kind (k .wide)
       go false = refl
 
@@ -99,9 +99,9 @@ module _ (w : StateWrite) (k : Key) (eight : length (k .stages) ≡ 8) (e : acce
   spare-set = ap (λ (s : Stage). s .flags / 4) written ∙ go (eqb (w .stage) i) ∙ ap (λ (f : ℕ). f / 4) flags-for
     where
       go : (b : Bool)
-          → cond b (setStage (w .state) (w .value) (stageIn i (stagesFor (w .state) k))) (stageIn i (stagesFor (w .state) k)) .flags / 4
-          ≡ stageIn i (stagesFor (w .state) k) .flags / 4
-      go true = flags-after (w .state) (w .value) (stageIn i (stagesFor (w .state) k) .flags) (a .value) .rest
+          → cond b (setStage (w .state) (w .value) (stageAt i (stagesFor (w .state) k))) (stageAt i (stagesFor (w .state) k)) .flags / 4
+          ≡ stageAt i (stagesFor (w .state) k) .flags / 4
+      go true = flags-after (w .state) (w .value) (stageAt i (stagesFor (w .state) k) .flags) (a .value) .rest
       go false = refl
 
   unread-set : setsArg0 (w .state) ≡ false → unread i (setState (w .stage) (w .state) (w .value) k) ≡ unread i k
@@ -111,7 +111,7 @@ module _ (w : StateWrite) (k : Key) (eight : length (k .stages) ≡ 8) (e : acce
       ap arguments0 written ∙ rw f (go (eqb (w .stage) i) n)
     where
       go : (b : Bool) → (eqb (w .state) colourArg0 ≡ false) × (eqb (w .state) alphaArg0 ≡ false)
-          → arguments0 (cond b (setStage (w .state) (w .value) (stageIn i (k .stages))) (stageIn i (k .stages))) ≡ unread i k
+          → arguments0 (cond b (setStage (w .state) (w .value) (stageAt i (k .stages))) (stageAt i (k .stages))) ≡ unread i k
       go true n = rw (n .0, n .1)
       go false n = refl
 

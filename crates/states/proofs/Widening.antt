@@ -11,7 +11,7 @@ use Rattle.values.specs.declared.Stage.{Stage}
 use Rattle.values.specs.declared.Key.{Key}
 use Rattle.states.specs.Types.{alphaArg0, colourArg0, setsArg0}
 use Rattle.values.specs.Kinds.{sevenBytes}
-use Rattle.states.specs.States.{defaultStage, setStage, setState, stageIn, stagesFor, wideStages}
+use Rattle.states.specs.States.{defaultStage, setStage, setState, stageAt, stagesFor, wideStages}
 use Rattle.states.proofs.Stages.{neither}
 
 -- the first i stages as seven bytes say them, and those behind them as they were
@@ -45,11 +45,11 @@ wide-length k = go (k .wide)
     go true = refl
     go false = length-map (k .stages) sevenBytes
 
-pub wide-stage : (i : ℕ) (k : Key) → stageIn i (wideStages k) ≡ cond (k .wide) (stageIn i (k .stages)) (sevenBytes (stageIn i (k .stages)))
+pub wide-stage : (i : ℕ) (k : Key) → stageAt i (wideStages k) ≡ cond (k .wide) (stageAt i (k .stages)) (sevenBytes (stageAt i (k .stages)))
 unfolding wideStages
 wide-stage i k = go (k .wide)
   where
-    go : (wide : Bool) → stageIn i (cond wide (k .stages) (map sevenBytes (k .stages))) ≡ cond wide (stageIn i (k .stages)) (sevenBytes (stageIn i (k .stages)))
+    go : (wide : Bool) → stageAt i (cond wide (k .stages) (map sevenBytes (k .stages))) ≡ cond wide (stageAt i (k .stages)) (sevenBytes (stageAt i (k .stages)))
     go true = refl
     go false = List·getD-map sevenBytes (k .stages) i (defaultStage 1 1)
 
@@ -72,7 +72,7 @@ map-set (r ∷ l) (suc i) s = ap (λ (l : List Stage). sevenBytes r ∷ l) (map-
 
 -- some stages with the value v for the type t at stage i
 abbrev pub setIn : ℕ → ℕ → ℕ → List Stage → List Stage
-setIn i t v l = set l i (setStage t v (stageIn i l))
+setIn i t v l = set l i (setStage t v (stageAt i l))
 
 -- the stages after a write, as those of kind 6, are those of kind 6 after the write
 pub wide-after : (i t v : ℕ) (k : Key) → wideStages (setState i t v k) ≡ setIn i t v (wideStages k)
@@ -87,7 +87,7 @@ wide-after i t v k = go (setsArg0 t) (k .wide) refl
     go true false e = refl
     go false true e = refl
     go false false e =
-        map-set (k .stages) i (setStage t v (stageIn i (k .stages)))
+        map-set (k .stages) i (setStage t v (stageAt i (k .stages)))
         ∙ ap (set (map sevenBytes (k .stages)) i)
-        (seven-after t v (stageIn i (k .stages)) e
+        (seven-after t v (stageAt i (k .stages)) e
         ∙ ap (setStage t v) (sym (List·getD-map sevenBytes (k .stages) i (defaultStage 1 1))))

@@ -84,8 +84,8 @@ unfoldable pub defaults : Key
 defaults = record { stages = defaultStage 4 2 ∷ replicate 7 (defaultStage 1 1); «specular_add» = false; projected = 0; wide = false }
 
 -- stage i of some; a number that is none of theirs stands for a default stage
-abbrev pub stageIn : ℕ → List Stage → Stage
-stageIn i l = getD l i (defaultStage 1 1)
+abbrev pub stageAt : ℕ → List Stage → Stage
+stageAt i l = getD l i (defaultStage 1 1)
 
 -- The stages of a key as one of kind 6: "their default is 1, also in a kind 1 key so turned".
 unfoldable pub wideStages : Key → List Stage
@@ -93,7 +93,7 @@ wideStages k = cond (k .wide) (k .stages) (map sevenBytes (k .stages))
 
 -- what the key holds for a stage and a type
 unfoldable pub getState : ℕ → ℕ → Key → ℕ
-getState i t k = stageState t (stageIn i (wideStages k))
+getState i t k = stageState t (stageAt i (wideStages k))
 
 -- the stages that a write of the type t alters. 02, Nine: types 26 and 27 "make the key a kind 6 key"; "other writes leave a key's kind"
 abbrev pub stagesFor : ℕ → Key → List Stage
@@ -103,7 +103,7 @@ stagesFor t k = cond (setsArg0 t) (wideStages k) (k .stages)
 unfoldable pub setState : ℕ → ℕ → ℕ → Key → Key
 setState i t v k =
     record {
-      stages = set (stagesFor t k) i (setStage t v (stageIn i (stagesFor t k)));
+      stages = set (stagesFor t k) i (setStage t v (stageAt i (stagesFor t k)));
       «specular_add» = k .«specular_add»;
       projected = k .projected;
       wide = k .wide || setsArg0 t;

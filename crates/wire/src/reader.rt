@@ -35,7 +35,7 @@ ghost use Prim.Native.Nat.{_+_, _*_, _≤_, _<_};
 ghost use mathlib.Core.Bool.{true, false};
 ghost use mathlib.Core.Path.{_≡_};
 ghost use lib.ListN.{drop, length};
-ghost use Rattle.wire.specs.Bodies.{bodyLength, entryFromBody, keyFromBody, keyKind, maskAt, specularAt, stageFromBytes, stageSize, stagesFromBytes};
+ghost use Rattle.wire.specs.Bodies.{bodyLength, entryFromBody, keyFromBody, keyKind, maskAt, specularAt, stageFromBytes, stagesFromBytes};
 ghost use Rattle.wire.specs.Bodies.{stateFromBody, variantFromBody, wordAt};
 ghost use Rattle.wire.specs.Reading.{byKind, readAs, readBody, readKey, readNumber, readRecord, recordNumber, refused, took};
 ghost use Rattle.values.specs.declared.Refusal.the-variants.{UnknownKind};
@@ -51,7 +51,7 @@ const SPECULAR_AT: usize = 8 * STAGE_BYTES;
 const WIDE_SPECULAR_AT: usize = 8 * WIDE_STAGE_BYTES;
 
 // The stage whose seven bytes begin at a place. It has the default for its arguments 0.
-pub fn stage_at(body: &[u8], at: usize) -> Stage
+fn stage_at(body: &[u8], at: usize) -> Stage
     requires { ⌜ at + 7 ≤ length (now body) ⌝ }
     ensures { λ r. ⌜ r ≡ stageFromBytes false (drop at (now (body .entry))) ⌝ }
 {

@@ -78,8 +78,8 @@ unfolding heldOf
 held-narrow held e = rw (ne-eqb _ _ e)
 
 -- values read from bytes that hold all three
-pub held-admitted : (held : List ℕ) {k : Key} {v : Variant} {e : Entry} → heldOf held .key ≡ k → v ≡ variantFromBody (heldBody kind.Variant held) → e ≡ entryFromBody (heldBody kind.Entry held)
-    → holdsAll (heldOf held) ≡ true → Admitted k v e
+pub held-admitted : (held : List ℕ) {k : Key} {v : Variant} {e : Entry} → heldOf held .key ≡ k → v ≡ variantFromBody (heldBody kind.Variant held)
+    → e ≡ entryFromBody (heldBody kind.Entry held) → holdsAll (heldOf held) ≡ true → Admitted k v e
 unfolding heldOf
 held-admitted held w q r t =
     let s = both (heldOf held .«has_key») (heldOf held .«has_variant» && heldOf held .«has_entry») t in
@@ -104,8 +104,8 @@ module _ (held out res : List ℕ) where
         let h : n ≡ 0 → ⊥ = λ z. not-zero EmitTooEarly (sym q ∙ z) in
         (rw (sym e ∙ f) q, (left _ out h, (left _ res h, λ z. absurd (h z))))
 
-    pub held-emitted : {n : ℕ} {out′ res′ : List ℕ} {k : Key} {v : Variant} {x : Entry} → all ≡ true → heldOf held .key ≡ k → v ≡ variantFromBody (heldBody kind.Variant held)
-        → x ≡ entryFromBody (heldBody kind.Entry held) → Emits k v x out res n out′ res′ → HeldEmits n out′ res′
+    pub held-emitted : {n : ℕ} {out′ res′ : List ℕ} {k : Key} {v : Variant} {x : Entry} → all ≡ true → heldOf held .key ≡ k
+        → v ≡ variantFromBody (heldBody kind.Variant held) → x ≡ entryFromBody (heldBody kind.Entry held) → Emits k v x out res n out′ res′ → HeldEmits n out′ res′
     unfolding heldOf emitNumber textWith resultWith
     held-emitted t w q r s = let y = rw (sym w, q, r) at s in (rw (sym e ∙ t) (y .0), y .1)
 

@@ -22,7 +22,7 @@ ghost use mathlib.Core.Bool.{cond, false, true};
 ghost use lib.Dec.{ltb};
 ghost use lib.ListN.{length};
 ghost use Rattle.values.specs.Flags.{stageFlagsBad};
-ghost use Rattle.wire.specs.Bodies.{bodyLength, keyFromBody, keyKind};
+ghost use Rattle.wire.specs.Bodies.{bodyLength, keyFromBody};
 ghost use Rattle.wire.specs.Reading.{bodyNumber, byKind, recordNumber};
 
 // The lowest flag bit without a meaning: bit 2 of a stage, bit 6 of a variant.

@@ -54,9 +54,15 @@ returns-4 c =
 eight : (s : tie.Start) → length (s .args .key .stages) ≡ 8
 eight s = sym (length-map (s .args .key .stages) _) ∙ s .good .0 .1 .1 .0 .1 .0 .1
 
-admitted : (c : tie.Else4) →
-    let s = c .before .before .before .before .before .before .before .before .before in
-    Admitted (s .args .key) (s .args .variant) (s .args .entry)
+-- behind all four checks
+abbrev start : tie.Else4 → tie.Start
+start c =
+    let s3 = c .before .before in
+    let s2 = s3 .before .before in
+    let s1 = s2 .before .before in
+    s1 .before .before .before
+
+admitted : (c : tie.Else4) → Admitted (start c .args .key) (start c .args .variant) (start c .args .entry)
 admitted c =
     let s3 = c .before .before in
     let s2 = s3 .before .before in
@@ -76,7 +82,7 @@ returns-5 : tie.Need-returns-5
 returns-5 c =
     let p = c .before .before in
     let eff = p .before .before in
-    let s = eff .before .before .before .before .before .before .before .before .before .before in
+    let s = start (eff .before) in
     let k = s .args .key in
     let v = s .args .variant in
     let e = s .args .entry in

@@ -1,6 +1,4 @@
 -- The test says which kind of key is read.
-use native.Mathlib.Omega.{arith}
-use borrow.Author.Needs.{needs}
 use Rattle.wire.proofs.reader.key_from_body.Statement.{statement}
 use Rattle.wire.proofs.reader.key_from_body.Tie as tie
 

@@ -10,5 +10,11 @@ unfolding keyFromBody
 returns c = rw (c .before .before .narrow-stages .ensures)
 
 pub narrow-key-spec : {M : Type 1} → statement M
-narrow-key-spec = tie.close (tie.spec (λ c κs. search needs) (λ c. omega (arith, c .before .before .before .pre)) (λ c. omega (arith, c .before .before .before .pre))
-    (λ c. omega (arith, c .before .before .before .before .pre)) returns)
+narrow-key-spec =
+    tie.close
+    (tie.spec
+    (λ c κs. search needs)
+    (λ c. omega (arith, c .before .before .before .pre))
+    (λ c. omega (arith, c .before .before .before .pre))
+    (λ c. omega (arith, c .before .before .before .before .pre))
+    returns)

@@ -97,8 +97,8 @@ returns-4 c =
     let asked = none .before in
     let test = asked .before .before in
     let e = test .before .before in
-    emitted e (narrow test) _ _
-    (placed-emits (raw-in-place (body e) _ _ (sym (asked .any-byte-of-three .ensures) ∙ none .if3 .left)) _ _ (key .raw-key .ensures) (m .emit-values2 .ensures))
+    let place = raw-in-place (body e) _ _ (sym (asked .any-byte-of-three .ensures) ∙ none .if3 .left) in
+    emitted e (narrow test) _ _ (placed-emits place _ _ (key .raw-key .ensures) (m .emit-values2 .ensures))
 
 pub emit-held-spec : {M : Type 1} → statement M
 emit-held-spec {M} =

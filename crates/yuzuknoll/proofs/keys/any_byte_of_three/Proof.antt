@@ -1,9 +1,8 @@
 -- The bytes before i have been asked.
-use Prim.Native.Nat.{ℕ, _+_, _≤_, _-_}
+use Prim.Native.Nat.{ℕ, _≤_, _-_}
 use mathlib.Core.Path.{_≡_, refl, ap, _∙_}
-use mathlib.Core.Bool.{Bool, _||_}
 use native.Mathlib.Omega.{arith}
-use lib.ListN.{length, take}
+use lib.ListN.{take}
 use Rattle.yuzuknoll.specs.Raw.{anyByteOfThree}
 use Rattle.yuzuknoll.proofs.Raw.{byte-asked}
 use borrow.Author.Needs.{needs}
