@@ -57,7 +57,7 @@ pub enum StateAnswer {
 }
 
 // The types that only a key of kind 6 has.
-fn sets_arg0(state: u8) -> bool
+pub fn sets_arg0(state: u8) -> bool
     ensures { λ r. ⌜ r ≡ setsArg0 state ⌝ }
 {
     (state == D3DTSS_COLORARG0) | (state == D3DTSS_ALPHAARG0)
@@ -247,7 +247,7 @@ fn with_result(value: u8, flags: u8) -> u8
     flags % 2 + (2 * ((value == D3DTA_TEMP) as u8) + 4 * (flags / 4))
 }
 
-fn set_stage(stage: Stage, state: u8, value: u8) -> Stage
+pub fn set_stage(stage: Stage, state: u8, value: u8) -> Stage
     ensures { λ r. ⌜ r ≡ setStage state value stage ⌝ }
 {
     let mut after = stage;

@@ -81,7 +81,7 @@ eight-stages : (wide : Bool) → stageSize wide * 8 ≡ specularAt wide
 eight-stages true = refl
 eight-stages false = refl
 
-stage-length : (wide : Bool) (s : Stage) → length (stageBytes wide s) ≡ stageSize wide
+pub stage-length : (wide : Bool) (s : Stage) → length (stageBytes wide s) ≡ stageSize wide
 stage-length true s = refl
 stage-length false s = refl
 
@@ -207,20 +207,17 @@ stage-again : (wide : Bool) (t : List ℕ) → stageSize wide ≤ length t → s
 stage-again true t h = gets-take 0 9 t h
 stage-again false t h = gets-take 0 7 t h
 
+pub one-more : (wide : Bool) (n : ℕ) → stageSize wide + stageSize wide * n ≡ stageSize wide * suc n
+one-more true n = omega arith
+one-more false n = omega arith
+
 -- room for one more stage
 module _ (wide : Bool) (n : ℕ) (t : List ℕ) (h : stageSize wide * suc n ≤ length t) where
-  one-more : stageSize wide + stageSize wide * n ≡ stageSize wide * suc n
-  one-more = go wide
-    where
-      go : (wide : Bool) → stageSize wide + stageSize wide * n ≡ stageSize wide * suc n
-      go true = omega arith
-      go false = omega arith
-
   first-fits : stageSize wide ≤ length t
-  first-fits = omega (arith, one-more)
+  first-fits = omega (arith, one-more wide n)
 
   rest-fits : stageSize wide * n ≤ length (drop (stageSize wide) t)
-  rest-fits = simp length-drop (omega (arith, one-more))
+  rest-fits = simp length-drop (omega (arith, one-more wide n))
 
 stages-again : (wide : Bool) (n : ℕ) (t : List ℕ) → stageSize wide * n ≤ length t → stagesBytes wide (stagesFromBytes wide n t) ≡ take (stageSize wide * n) t
 unfolding stagesFromBytes stagesBytes
@@ -231,7 +228,7 @@ stages-again wide (suc n) t h =
     ap (λ (r : List ℕ). stageBytes wide (stageFromBytes wide t) ++ r) (stages-again wide n (drop m t) (rest-fits wide n t h))
     ∙ ap (λ (l : List ℕ). l ++ take (m * n) (drop m t)) (stage-again wide t (first-fits wide n t h))
     ∙ sym (take-add m (m * n) t)
-    ∙ ap (λ (i : ℕ). take i t) (one-more wide n t h)
+    ∙ ap (λ (i : ℕ). take i t) (one-more wide n)
 
 two-again : (i : ℕ) (t : List ℕ) → i + 2 ≤ length t → _≡_ {A = List ℕ} (getD t i 0 ∷ getD t (i + 1) 0 ∷ []) (take 2 (drop i t))
 two-again i t h = rw add-one (gets-take i 2 t h)

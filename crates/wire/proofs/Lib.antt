@@ -3,3 +3,4 @@ pub mod Laws
 pub mod Found
 pub mod Written
 pub mod RoundTrips
+pub mod Altered

@@ -6,6 +6,7 @@ pub use values::Stage;
 pub use values::StateWrite;
 pub use values::Variant;
 
+pub mod alter;
 pub mod make;
 pub mod reader;
 pub mod writer;

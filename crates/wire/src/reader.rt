@@ -41,9 +41,9 @@ ghost use Rattle.wire.specs.Reading.{byKind, readAs, readBody, readKey, 
 ghost use Rattle.values.specs.declared.Refusal.the-variants.{UnknownKind};
 
 // How many bytes a stage has in each kind of key.
-const STAGE_BYTES: usize = 7;
+pub(crate) const STAGE_BYTES: usize = 7;
 
-const WIDE_STAGE_BYTES: usize = 9;
+pub(crate) const WIDE_STAGE_BYTES: usize = 9;
 
 // Where specular add stands in a key's body, behind the eight stages; the projected mask stands behind it.
 const SPECULAR_AT: usize = 8 * STAGE_BYTES;
@@ -51,7 +51,7 @@ const SPECULAR_AT: usize = 8 * STAGE_BYTES;
 const WIDE_SPECULAR_AT: usize = 8 * WIDE_STAGE_BYTES;
 
 // The stage whose seven bytes begin at a place. It has the default for its arguments 0.
-fn stage_at(body: &[u8], at: usize) -> Stage
+pub(crate) fn stage_at(body: &[u8], at: usize) -> Stage
     requires { ⌜ at + 7 ≤ length (now body) ⌝ }
     ensures { λ r. ⌜ r ≡ stageFromBytes false (drop at (now (body .entry))) ⌝ }
 {
@@ -75,7 +75,7 @@ fn stage_at(body: &[u8], at: usize) -> Stage
 }
 
 // The stage whose nine bytes begin at a place.
-fn wide_stage_at(body: &[u8], at: usize) -> Stage
+pub(crate) fn wide_stage_at(body: &[u8], at: usize) -> Stage
     requires { ⌜ at + 9 ≤ length (now body) ⌝ }
     ensures { λ r. ⌜ r ≡ stageFromBytes true (drop at (now (body .entry))) ⌝ }
 {

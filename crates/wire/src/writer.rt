@@ -32,7 +32,7 @@ ghost use Rattle.wire.specs.Bodies.{entryBytes, keyBytes, recordBytes, s
 ghost use Rattle.wire.specs.Writing.{afterWriting, writeAnswer, writeInto, writeNumber, writtenNumber};
 
 // A stage of nine bytes, if it is wide, or of seven.
-fn put_stage(out: &mut [u8], at: usize, s: Stage, wide: bool) -> usize
+pub(crate) fn put_stage(out: &mut [u8], at: usize, s: Stage, wide: bool) -> usize
     ensures { λ r. ⌜ Wrote (now (out .entry)) at (now (out .exit)) r (raw (stageBytes wide s)) ⌝ }
 {
     if wide {

@@ -7,6 +7,7 @@ use lib.Dec.{eqb}
 use lib.ListN.{take, drop, getD, replicate}
 use lib.Seq.{sets}
 use Rattle.shader.specs.Results.{emittedOf, textOf}
+use Rattle.values.specs.declared.StateWrite.{StateWrite}
 use Rattle.states.specs.Writes.{writeApplied}
 use Rattle.wire.specs.Bodies.{kindByte, keyKind, recordLength, recordBytes, keyFromBody, variantFromBody, entryFromBody, stateFromBody}
 use Rattle.wire.specs.Values.{keyRecord}
@@ -77,6 +78,10 @@ onEmit kind.Emit emits holds = emits
 onEmit kind.State emits holds = holds
 onEmit kind.WideKey emits holds = holds
 
+-- the record of the key that a state write makes of the held one
+abbrev pub alteredRecord : StateWrite → List ℕ → List ℕ
+alteredRecord w held = recordBytes (keyRecord (writeApplied w (keyOrDefaults (heldOf held))))
+
 -- what then stands at the front of the record's part of the held bytes: the record at the front of b, or, for a state write, the record of the altered
 -- key. What the part has behind it stays.
 abbrev pub partWith : Kind → List ℕ → List ℕ → List ℕ
@@ -84,7 +89,7 @@ partWith kind.Key b held = take (recordLength kind.Key) b
 partWith kind.Variant b held = take (recordLength kind.Variant) b
 partWith kind.Entry b held = take (recordLength kind.Entry) b
 partWith kind.Emit b held = []
-partWith kind.State b held = recordBytes (keyRecord (writeApplied (stateFromBody (drop 1 b)) (keyOrDefaults (heldOf held))))
+partWith kind.State b held = alteredRecord (stateFromBody (drop 1 b)) held
 partWith kind.WideKey b held = take (recordLength kind.WideKey) b
 
 unfoldable pub heldWith : Kind → List ℕ → List ℕ → List ℕ

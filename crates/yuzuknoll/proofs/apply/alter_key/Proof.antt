@@ -1,37 +1,38 @@
--- The write is done to the key that is held, or to the defaults, and the record of the altered key is written to the front.
-use mathlib.Core.Path.{refl}
+-- The write behind the kind byte is done to what is held, and its numbers are stored.
+use mathlib.Core.Path.{refl, ap, sym, _∙_}
+use mathlib.Core.List.{List}
 use native.Mathlib.Omega.{arith}
-use Rattle.yuzuknoll.proofs.Altering.{key-altered}
 use borrow.Author.Needs.{needs}
+use Rattle.states.specs.Writes.{accepted}
+use Rattle.yuzuknoll.specs.Applying.{heldWith}
+use Rattle.yuzuknoll.proofs.Altering.{write-read}
 use Rattle.yuzuknoll.proofs.apply.alter_key.Statement.{statement}
 use Rattle.yuzuknoll.proofs.apply.alter_key.Tie as tie
 
+alter-held-requires : tie.Need-alter-held-requires
+alter-held-requires c κs =
+    let s = c .before .before .before .before .before in
+    let read = write-read (s .args .bytes .now) (omega (arith, s .pre .1 .0)) (c .state-from-body .ensures) in
+    (s .pre .0, ap accepted read ∙ s .pre .1 .1)
+
 returns : tie.Need-returns
+unfolding heldWith
 returns c =
     let w = c .before .before .before .before in
-    let m = w .before .before in
-    let k = m .before in
-    let read = k .before in
-    let b = read .before .before in
-    let s = b .before .before .before .before in
-    let altered =
-    key-altered (s .args .bytes .now) (s .args .held .now) (s .pre .0) (omega (arith, s .pre .1)) (read .state-from-body .ensures)
-    (b .key-or-defaults .ensures) (k .set .ensures) (m .key-record .ensures) (w .write .ensures .0) (w .write .ensures .1 .0)
-    in
-    (refl, (altered, c .report-applied .ensures))
+    let r = w .before in
+    let s = r .before .before .before .before .before in
+    let read = write-read (s .args .bytes .now) (omega (arith, s .pre .1 .0)) (r .state-from-body .ensures) in
+    (refl, (rw read at (w .alter-held .ensures), c .report-applied .ensures))
 
 pub alter-key-spec : {M : Type 1} → statement M
 alter-key-spec =
     tie.close
     (tie.spec
-    (λ c κs. search needs)
     (λ c. search needs)
     (λ c. search needs)
     (λ c. search needs)
     (λ c κs. search needs)
-    (λ c κs. tt)
-    (λ c κs. tt)
-    (λ c κs. tt)
+    alter-held-requires
     (λ c κs. tt)
     (λ c. search needs)
     returns)

@@ -4,6 +4,7 @@ use native.Mathlib.Omega.{arith}
 use Rattle.wire.specs.Bodies.{recordLength}
 use Rattle.yuzuknoll.proofs.Records.{bytes-within}
 use Rattle.yuzuknoll.proofs.Applying.{keeps, apply-refused, apply-emitted, apply-altered, apply-kept}
+use Rattle.yuzuknoll.proofs.Altering.{write-accepted}
 use borrow.Author.Needs.{needs}
 use Rattle.yuzuknoll.proofs.apply.yuzuknoll_apply.Statement.{statement}
 use Rattle.yuzuknoll.proofs.apply.yuzuknoll_apply.Tie as tie
@@ -17,7 +18,8 @@ alter-key-requires c κs =
     let k = told .before .before in
     let s1 = k .before in
     let z = sym (s1 .before .record-number .ensures) ∙ s1 .if1 .left in
-    (search needs, bytes-within _ z (k .kind-in .ensures) (sym (ap recordLength (told .enum-told2 .given .1))))
+    let write = sym (k .kind-in .ensures) ∙ told .enum-told2 .given .1 in
+    (search needs, (bytes-within _ z (k .kind-in .ensures) (sym (ap recordLength (told .enum-told2 .given .1))), write-accepted _ z write))
 
 keep-record-requires : tie.Need-keep-record-requires
 keep-record-requires c κs =

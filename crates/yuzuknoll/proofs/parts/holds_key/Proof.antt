@@ -2,8 +2,8 @@
 use Rattle.yuzuknoll.specs.Applying.{heldWide, heldOf}
 use Rattle.yuzuknoll.proofs.Applying.{key-fits}
 use borrow.Author.Needs.{needs}
-use Rattle.yuzuknoll.proofs.apply.holds_key.Statement.{statement}
-use Rattle.yuzuknoll.proofs.apply.holds_key.Tie as tie
+use Rattle.yuzuknoll.proofs.parts.holds_key.Statement.{statement}
+use Rattle.yuzuknoll.proofs.parts.holds_key.Tie as tie
 
 part-held-requires : tie.Need-part-held-requires
 part-held-requires c κs =

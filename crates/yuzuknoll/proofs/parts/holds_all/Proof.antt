@@ -1,8 +1,8 @@
 -- All are held where each part is.
 use Rattle.yuzuknoll.specs.Applying.{heldOf}
 use borrow.Author.Needs.{needs}
-use Rattle.yuzuknoll.proofs.apply.holds_all.Statement.{statement}
-use Rattle.yuzuknoll.proofs.apply.holds_all.Tie as tie
+use Rattle.yuzuknoll.proofs.parts.holds_all.Statement.{statement}
+use Rattle.yuzuknoll.proofs.parts.holds_all.Tie as tie
 
 returns : tie.Need-returns
 unfolding heldOf

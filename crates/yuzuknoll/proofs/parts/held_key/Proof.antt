@@ -2,8 +2,8 @@
 use borrow.Author.Tests.{ne-eqb}
 use Rattle.yuzuknoll.specs.Applying.{heldOf}
 use borrow.Author.Needs.{needs}
-use Rattle.yuzuknoll.proofs.apply.held_key.Statement.{statement}
-use Rattle.yuzuknoll.proofs.apply.held_key.Tie as tie
+use Rattle.yuzuknoll.proofs.parts.held_key.Statement.{statement}
+use Rattle.yuzuknoll.proofs.parts.held_key.Tie as tie
 
 returns : tie.Need-returns
 unfolding heldOf

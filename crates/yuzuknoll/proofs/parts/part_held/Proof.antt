@@ -1,7 +1,7 @@
 -- The kind byte is compared, and the number of a body that is long enough is that of its kind.
 use borrow.Author.Tests.{le-ltb}
-use Rattle.yuzuknoll.proofs.apply.part_held.Statement.{statement}
-use Rattle.yuzuknoll.proofs.apply.part_held.Tie as tie
+use Rattle.yuzuknoll.proofs.parts.part_held.Statement.{statement}
+use Rattle.yuzuknoll.proofs.parts.part_held.Tie as tie
 
 returns : tie.Need-returns
 returns c =

@@ -1,8 +1,8 @@
 -- At each `return` the test that led there says whether a key is held.
 use mathlib.Core.Path.{sym, _∙_}
 use borrow.Author.Needs.{needs}
-use Rattle.yuzuknoll.proofs.apply.key_or_defaults.Statement.{statement}
-use Rattle.yuzuknoll.proofs.apply.key_or_defaults.Tie as tie
+use Rattle.yuzuknoll.proofs.alter.key_or_defaults.Statement.{statement}
+use Rattle.yuzuknoll.proofs.alter.key_or_defaults.Tie as tie
 
 returns : tie.Need-returns
 returns c = let s1 = c .before in rw (sym (s1 .before .holds-key .ensures) ∙ s1 .if1 .taken) (c .held-key .ensures)
