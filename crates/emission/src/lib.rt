@@ -37,7 +37,8 @@ const MOST_TEXT: usize = 6657;
 fn put_text(out: &mut [u8], k: Key, v: Variant, e: Entry, u: Survey) -> Place
     requires { ⌜ (u ≡ surveyOf (k .stages)) × (e .len ≤ 32) ⌝ }
     ensures place { λ r. ⌜ r .at ≡ length (flat (wholeText k v e)) ⌝ }
-    ensures fits { λ _. ⌜ (length (flat (wholeText k v e)) ≤ length (now (out .entry)) → now (out .exit) ≡ inFront (flat (wholeText k v e)) (now (out .entry))) ⌝ }
+    ensures fits { λ _.
+        ⌜ (length (flat (wholeText k v e)) ≤ length (now (out .entry)) → now (out .exit) ≡ inFront (flat (wholeText k v e)) (now (out .entry))) ⌝ }
     ensures over { λ _. ⌜ (length (now (out .entry)) < length (flat (wholeText k v e)) → now (out .exit) ≡ now (out .entry)) ⌝ }
     ensures lookups { λ r. ⌜ r .lookups ≡ lookupsOf (u .live) (active (k .stages)) ⌝ }
 {

@@ -105,7 +105,8 @@ module _ (held out res : List ℕ) where
         (rw (sym e ∙ f) q, (left _ out h, (left _ res h, λ z. absurd (h z))))
 
     pub held-emitted : {n : ℕ} {out′ res′ : List ℕ} {k : Key} {v : Variant} {x : Entry} → all ≡ true → heldOf held .key ≡ k
-        → v ≡ variantFromBody (heldBody kind.Variant held) → x ≡ entryFromBody (heldBody kind.Entry held) → Emits k v x out res n out′ res′ → HeldEmits n out′ res′
+        → v ≡ variantFromBody (heldBody kind.Variant held) → x ≡ entryFromBody (heldBody kind.Entry held)
+        → Emits k v x out res n out′ res′ → HeldEmits n out′ res′
     unfolding heldOf emitNumber textWith resultWith
     held-emitted t w q r s = let y = rw (sym w, q, r) at s in (rw (sym e ∙ t) (y .0), y .1)
 

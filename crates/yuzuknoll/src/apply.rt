@@ -105,7 +105,7 @@ fn keep_record(
 
 // A state write.
 fn alter_key(bytes: &[u8], held: &mut [u8], applied: &mut [u64; APPLIED_LENGTH]) -> u64
-    requires { ⌜ (length (now held) ≡ heldLength) × ((recordLength Kind.State ≤ length (now bytes)) × (accepted (stateFromBody (drop 1 (now bytes))) ≡ true)) ⌝ }
+    requires { ⌜ (length (now held) ≡ heldLength) × (recordLength Kind.State ≤ length (now bytes)) × (accepted (stateFromBody (drop 1 (now bytes))) ≡ true) ⌝ }
     ensures number { λ r. ⌜ r ≡ 0 ⌝ }
     ensures held { λ _. ⌜ now (held .exit) ≡ heldWith Kind.State (now (bytes .entry)) (now (held .entry)) ⌝ }
     ensures applied { λ _. ⌜ now (applied .exit) ≡ recordNumbers Kind.State ++ noResult ⌝ }
@@ -143,9 +143,13 @@ pub extern "C" fn yuzuknoll_apply(
 ) -> u64
     ensures number { λ r. ⌜ r ≡ appliedNumber (heldOf (now (held .entry))) (now (bytes .entry)) (length (now (text .entry))) ⌝ }
     ensures held { λ r. ⌜ now (held .exit) ≡ after r (heldWith (kindIn (now (bytes .entry))) (now (bytes .entry)) (now (held .entry))) (now (held .entry)) ⌝ }
-    ensures text { λ r. ⌜ now (text .exit) ≡ after r (textWith (kindIn (now (bytes .entry))) (heldOf (now (held .entry))) (now (text .entry))) (now (text .entry)) ⌝ }
-    ensures applied { λ r. ⌜ now (applied .exit) ≡ after r (appliedNumbers (kindIn (now (bytes .entry))) (heldOf (now (held .entry)))) (now (applied .entry)) ⌝ }
-    ensures names { λ r. ⌜ (r ≡ 0 → kindIn (now (bytes .entry)) ≡ Kind.Emit → ReportedDemands (heldOf (now (held .entry)) .key) (now (text .exit)) (drop 2 (now (applied .exit)))) ⌝ }
+    ensures text { λ r.
+        ⌜ now (text .exit) ≡ after r (textWith (kindIn (now (bytes .entry))) (heldOf (now (held .entry))) (now (text .entry))) (now (text .entry)) ⌝ }
+    ensures applied { λ r.
+        ⌜ now (applied .exit) ≡ after r (appliedNumbers (kindIn (now (bytes .entry))) (heldOf (now (held .entry)))) (now (applied .entry)) ⌝ }
+    ensures names { λ r.
+        ⌜ (r ≡ 0 → kindIn (now (bytes .entry)) ≡ Kind.Emit →
+        ReportedDemands (heldOf (now (held .entry)) .key) (now (text .exit)) (drop 2 (now (applied .exit)))) ⌝ }
 {
     let number = record_number(bytes);
     if number != ACCEPTED {

@@ -92,8 +92,10 @@ pub(crate) fn emit_rewritten(
 ) -> u64
     requires { ⌜ (bodyLength Kind.Key ≤ length (now body)) × Admitted (keyFromBody false (now body)) variant entry ⌝ }
     ensures number { λ r. ⌜ r ≡ emissionNumber (keyFromBody false (now (body .entry))) variant entry (length (now (text .entry))) ⌝ }
-    ensures text { λ r. ⌜ now (text .exit) ≡ after r (atFront (textOf (keyFromBody false (now (body .entry))) variant entry) (now (text .entry))) (now (text .entry)) ⌝ }
-    ensures result { λ r. ⌜ now (result .exit) ≡ after r (resultNumbers (emittedOf (keyFromBody false (now (body .entry))) variant entry)) (now (result .entry)) ⌝ }
+    ensures text { λ r.
+        ⌜ now (text .exit) ≡ after r (atFront (textOf (keyFromBody false (now (body .entry))) variant entry) (now (text .entry))) (now (text .entry)) ⌝ }
+    ensures result { λ r.
+        ⌜ now (result .exit) ≡ after r (resultNumbers (emittedOf (keyFromBody false (now (body .entry))) variant entry)) (now (result .entry)) ⌝ }
     ensures names { λ r. ⌜ (r ≡ 0 → ReportedDemands (keyFromBody false (now (body .entry))) (now (text .exit)) (now (result .exit))) ⌝ }
 {
     let key = effective(narrow_key(body));
@@ -125,8 +127,11 @@ pub extern "C" fn yuzuknoll_emit(
     result: &mut [u64; RESULT_LENGTH],
 ) -> u64
     ensures number { λ r. ⌜ r ≡ bodiesNumber false (now (key .entry)) (now (variant .entry)) (now (entry .entry)) (length (now (text .entry))) ⌝ }
-    ensures text { λ r. ⌜ now (text .exit) ≡ after r (atFront (bodiesText false (now (key .entry)) (now (variant .entry)) (now (entry .entry))) (now (text .entry))) (now (text .entry)) ⌝ }
-    ensures result { λ r. ⌜ now (result .exit) ≡ after r (bodiesResult false (now (key .entry)) (now (variant .entry)) (now (entry .entry))) (now (result .entry)) ⌝ }
+    ensures text { λ r.
+        ⌜ now (text .exit)
+        ≡ after r (atFront (bodiesText false (now (key .entry)) (now (variant .entry)) (now (entry .entry))) (now (text .entry))) (now (text .entry)) ⌝ }
+    ensures result { λ r.
+        ⌜ now (result .exit) ≡ after r (bodiesResult false (now (key .entry)) (now (variant .entry)) (now (entry .entry))) (now (result .entry)) ⌝ }
     ensures names { λ r. ⌜ (r ≡ 0 → ReportedDemands (keyFromBody false (now (key .entry))) (now (text .exit)) (now (result .exit))) ⌝ }
 {
     let k = raw_key(key);
@@ -152,8 +157,11 @@ pub extern "C" fn yuzuknoll_emit_wide(
     result: &mut [u64; RESULT_LENGTH],
 ) -> u64
     ensures number { λ r. ⌜ r ≡ bodiesNumber true (now (key .entry)) (now (variant .entry)) (now (entry .entry)) (length (now (text .entry))) ⌝ }
-    ensures text { λ r. ⌜ now (text .exit) ≡ after r (atFront (bodiesText true (now (key .entry)) (now (variant .entry)) (now (entry .entry))) (now (text .entry))) (now (text .entry)) ⌝ }
-    ensures result { λ r. ⌜ now (result .exit) ≡ after r (bodiesResult true (now (key .entry)) (now (variant .entry)) (now (entry .entry))) (now (result .entry)) ⌝ }
+    ensures text { λ r.
+        ⌜ now (text .exit)
+        ≡ after r (atFront (bodiesText true (now (key .entry)) (now (variant .entry)) (now (entry .entry))) (now (text .entry))) (now (text .entry)) ⌝ }
+    ensures result { λ r.
+        ⌜ now (result .exit) ≡ after r (bodiesResult true (now (key .entry)) (now (variant .entry)) (now (entry .entry))) (now (result .entry)) ⌝ }
     ensures names { λ r. ⌜ (r ≡ 0 → ReportedDemands (keyFromBody true (now (key .entry))) (now (text .exit)) (now (result .exit))) ⌝ }
 {
     let k = wide_key(key);

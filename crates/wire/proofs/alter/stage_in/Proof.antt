@@ -1,6 +1,4 @@
 -- At each `return` the test that led there says how many bytes the stage has.
-use borrow.Author.Needs.{needs}
-use native.Mathlib.Omega.{arith}
 use Rattle.wire.proofs.alter.stage_in.Statement.{statement}
 use Rattle.wire.proofs.alter.stage_in.Tie as tie
 

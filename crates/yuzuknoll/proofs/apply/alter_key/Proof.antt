@@ -1,6 +1,5 @@
 -- The write behind the kind byte is done to what is held, and its numbers are stored.
-use mathlib.Core.Path.{refl, ap, sym, _∙_}
-use mathlib.Core.List.{List}
+use mathlib.Core.Path.{refl, ap, _∙_}
 use native.Mathlib.Omega.{arith}
 use borrow.Author.Needs.{needs}
 use Rattle.states.specs.Writes.{accepted}
@@ -12,8 +11,8 @@ use Rattle.yuzuknoll.proofs.apply.alter_key.Tie as tie
 alter-held-requires : tie.Need-alter-held-requires
 alter-held-requires c κs =
     let s = c .before .before .before .before .before in
-    let read = write-read (s .args .bytes .now) (omega (arith, s .pre .1 .0)) (c .state-from-body .ensures) in
-    (s .pre .0, ap accepted read ∙ s .pre .1 .1)
+    let read = write-read (s .args .bytes .now) (omega (arith, s .pre .1)) (c .state-from-body .ensures) in
+    (s .pre .0, ap accepted read ∙ s .pre .2)
 
 returns : tie.Need-returns
 unfolding heldWith
@@ -21,7 +20,7 @@ returns c =
     let w = c .before .before .before .before in
     let r = w .before in
     let s = r .before .before .before .before .before in
-    let read = write-read (s .args .bytes .now) (omega (arith, s .pre .1 .0)) (r .state-from-body .ensures) in
+    let read = write-read (s .args .bytes .now) (omega (arith, s .pre .1)) (r .state-from-body .ensures) in
     (refl, (rw read at (w .alter-held .ensures), c .report-applied .ensures))
 
 pub alter-key-spec : {M : Type 1} → statement M

@@ -19,7 +19,7 @@ alter-key-requires c κs =
     let s1 = k .before in
     let z = sym (s1 .before .record-number .ensures) ∙ s1 .if1 .left in
     let write = sym (k .kind-in .ensures) ∙ told .enum-told2 .given .1 in
-    (search needs, (bytes-within _ z (k .kind-in .ensures) (sym (ap recordLength (told .enum-told2 .given .1))), write-accepted _ z write))
+    (search needs, bytes-within _ z (k .kind-in .ensures) (sym (ap recordLength (told .enum-told2 .given .1))), write-accepted _ z write)
 
 keep-record-requires : tie.Need-keep-record-requires
 keep-record-requires c κs =
