@@ -36,7 +36,7 @@ fn stage_in(body: &[u8], at: usize, wide: bool) -> Stage
     stage_at(body, at)
 }
 
-// The body of a key, of kind 6 if it is wide, after a write that leaves its kind.
+// Does a write to the body of a key, of kind 6 if it is wide. A body of kind 1 has no arguments 0, so a write of one leaves it.
 pub fn alter(body: &mut [u8], wide: bool, write: StateWrite)
     requires { ⌜ Alterable wide (now body) write ⌝ }
     ensures { λ _. ⌜ now (body .exit) ≡ bodyWith wide (now (body .entry)) write ⌝ }
