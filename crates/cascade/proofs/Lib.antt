@@ -4,4 +4,3 @@ pub mod Narrowing
 mod PlainStages
 pub mod Reports
 mod Walking
-mod Three

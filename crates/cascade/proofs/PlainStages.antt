@@ -14,7 +14,7 @@ use Rattle.cascade.specs.Walks.{warns}
 use Rattle.cascade.specs.Plain.{PlainArgument, PlainCombiner, PlainStage}
 use Rattle.values.specs.declared.Combiner.{Combiner}
 use Rattle.values.specs.declared.Stage.{Stage}
-use Rattle.cascade.proofs.Guards.{and-false}
+use Rattle.cascade.proofs.Guards.{and-false, none-read, none-kept}
 
 pub both : (a b : Bool) → (a && b) ≡ true → (a ≡ true) × (b ≡ true)
 both true b e = (refl, e)
@@ -41,12 +41,10 @@ none f h c p = rw (h (c .arg1) (p .first), h (c .arg2) (p .second), p .third)
 
 module _ (c : Combiner) (p : PlainCombiner c) where
   no-constant : reads constant c ≡ false
-  unfolding reads
-  no-constant = rw (p .first .constant, p .second .constant, p .third, and-false, and-false)
+  no-constant = none-read constant c (none (selects constant) (λ a x. x .constant) c p)
 
   no-temp : (t : Bool) → keeps temp t c ≡ false
-  unfolding keeps
-  no-temp t = rw (p .first .temp, p .second .temp, p .third, and-false, and-false)
+  no-temp t = none-kept temp t c (none (selects temp) (λ a x. x .temp) c p)
 
 module _ (s : Stage) (p : PlainCombiner (s .colour)) (q : PlainCombiner (s .alpha)) where
   names : namesFactor s ≡ blendsByFactor s

@@ -44,9 +44,13 @@ third f c = threeOperands (c .op) && f (c .arg0)
 abbrev pub some : (ℕ → Bool) → Combiner → Bool
 some f c = f (c .arg1) || (f (c .arg2) || third f c)
 
+-- a fact of one of the arguments that count: the first and the second where a rule says that they do, argument 0 where the op has it
+abbrev pub someCounted : (ℕ → Bool) → Bool → Bool → Combiner → Bool
+someCounted f first second c = (first && f (c .arg1)) || ((second && f (c .arg2)) || third f c)
+
 -- the op reads an argument that selects k
 unfoldable pub reads : ℕ → Combiner → Bool
-reads k c = (readsFirst (c .op) && selects k (c .arg1)) || ((readsSecond (c .op) && selects k (c .arg2)) || third (selects k) c)
+reads k c = someCounted (selects k) (readsFirst (c .op)) (readsSecond (c .op)) c
 
 -- 01: "Unbound fallback: no texture, and the op reads an argument with selector 2."
 unfoldable pub fallsBack : Bool → Combiner → Bool

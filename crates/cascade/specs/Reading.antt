@@ -6,13 +6,13 @@ use mathlib.Core.List.{List, [], _∷_}
 use lib.Dec.{eqb}
 use Rattle.combiners.specs.Codes.{disable, bumpEnvMapLuminance, texture, temp}
 use Rattle.combiners.specs.Combiners.{keepsFirst, keepsSecond, readsOwnTexel}
-use Rattle.cascade.specs.Keys.{textured, toTemp, selects, third, fallsBack, isBumpOp, bump, alphaFromColour}
+use Rattle.cascade.specs.Keys.{textured, toTemp, selects, someCounted, fallsBack, isBumpOp, bump, alphaFromColour}
 use Rattle.values.specs.declared.Combiner.{Combiner}
 use Rattle.values.specs.declared.Stage.{Stage}
 
 -- the op keeps an argument that selects k
 unfoldable pub keeps : ℕ → Bool → Combiner → Bool
-keeps k tex c = (keepsFirst tex (c .op) && selects k (c .arg1)) || ((keepsSecond tex (c .op) && selects k (c .arg2)) || third (selects k) c)
+keeps k tex c = someCounted (selects k) (keepsFirst tex (c .op)) (keepsSecond tex (c .op)) c
 
 -- 01: "A fallback expression keeps no argument and reads `current` only. Any other expression reads a local if a kept argument selects it. With a
 -- texture bound, ops 13 and 15 outside a fallback also read the stage's `t`."

@@ -7,7 +7,7 @@ use values::Combiner;
 use values::Key;
 use values::Stage;
 ghost use mathlib.Core.Path.{_≡_};
-ghost use Rattle.cascade.specs.Keys.{textured, toTemp, activeCount, readsFirst, readsSecond, selects, third, some, reads, fallsBack, isBumpOp, bump, alphaFromColour, readsConstant, blendsByFactor, namesFactor};
+ghost use Rattle.cascade.specs.Keys.{textured, toTemp, activeCount, readsFirst, readsSecond, selects, third, some, someCounted, reads, fallsBack, isBumpOp, bump, alphaFromColour, readsConstant, blendsByFactor, namesFactor};
 
 const STAGES: usize = 8;
 
@@ -59,7 +59,7 @@ fn reads_second(op: u8) -> bool
     !((op == D3DTOP_DISABLE) | (op == D3DTOP_SELECTARG1))
 }
 
-pub(crate) fn selects(selector: u8, arg: u8) -> bool
+fn selects(selector: u8, arg: u8) -> bool
     ensures { λ r. ⌜ r ≡ selects selector arg ⌝ }
 {
     arg % SELECTORS == selector
@@ -78,18 +78,23 @@ pub(crate) fn some_selects(selector: u8, c: Combiner) -> bool
     selects(selector, c.arg1) | (selects(selector, c.arg2) | third_selects(selector, c))
 }
 
+// One of the arguments that count selects it: the first and the second where the caller says so, and argument 0 of an op that has one.
+pub(crate) fn some_counted_selects(selector: u8, first: bool, second: bool, c: Combiner) -> bool
+    ensures { λ r. ⌜ r ≡ someCounted (selects selector) first second c ⌝ }
+{
+    (first & selects(selector, c.arg1))
+        | ((second & selects(selector, c.arg2)) | third_selects(selector, c))
+}
+
 fn reads(selector: u8, c: Combiner) -> bool
     ensures { λ r. ⌜ r ≡ reads selector c ⌝ }
 {
-    if three_operands(c.op) {
-        return some_selects(selector, c);
-    }
-    let first = selects(selector, c.arg1);
-    let second = selects(selector, c.arg2);
-    if !(first | second) {
+    if !some_selects(selector, c) {
         return false;
     }
-    (reads_first(c.op) & first) | (reads_second(c.op) & second)
+    let first = reads_first(c.op);
+    let second = reads_second(c.op);
+    some_counted_selects(selector, first, second, c)
 }
 
 pub(crate) fn falls_back(textured: bool, c: Combiner) -> bool

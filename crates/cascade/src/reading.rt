@@ -2,13 +2,12 @@
 use crate::keys::alpha_from_colour;
 use crate::keys::falls_back;
 use crate::keys::is_bump_op;
-use crate::keys::selects;
+use crate::keys::some_counted_selects;
 use crate::keys::some_selects;
 use crate::keys::textured;
 use crate::keys::to_temp;
 use combiners::codes::*;
 use combiners::ops::has_text;
-use combiners::ops::three_operands;
 use values::Combiner;
 use values::Stage;
 ghost use mathlib.Core.Path.{_≡_};
@@ -30,15 +29,12 @@ fn keeps_second(textured: bool, op: u8) -> bool
 fn keeps(selector: u8, textured: bool, c: Combiner) -> bool
     ensures { λ r. ⌜ r ≡ keeps selector textured c ⌝ }
 {
-    if three_operands(c.op) {
-        return some_selects(selector, c);
-    }
-    let first = selects(selector, c.arg1);
-    let second = selects(selector, c.arg2);
-    if !(first | second) {
+    if !some_selects(selector, c) {
         return false;
     }
-    (keeps_first(textured, c.op) & first) | (keeps_second(textured, c.op) & second)
+    let first = keeps_first(textured, c.op);
+    let second = keeps_second(textured, c.op);
+    some_counted_selects(selector, first, second, c)
 }
 
 fn reads_own_texel(textured: bool, op: u8) -> bool
