@@ -1,39 +1,15 @@
--- Stages narrowed one by one: the first i are narrowed, and those behind them are as they were.
-use Prim.Native.Nat.{ℕ, zero, suc, _+_, _≤_, _<_}
+-- What narrowing leaves as it was: how many stages there are, their flags, stages without an op of three operands, and what is narrowed already.
+use Prim.Native.Nat.{ℕ}
 use mathlib.Core.Bool.{Bool, true, false, _||_, cond, true≢false}
-use mathlib.Core.Path.{_≡_, refl, ap}
+use mathlib.Core.Path.{_≡_, refl}
 use mathlib.Core.List.{List, [], _∷_, map}
-use native.Mathlib.Omega.{arith}
-use native.Mathlib.Numerals.{add-one}
-use lib.ListN.{length, getD, set, length-map}
+use lib.ListN.{length, length-map}
 use Rattle.combiners.specs.Codes.{preModulate}
 use Rattle.combiners.specs.Combiners.{threeOperands}
 use Rattle.cascade.specs.Effective.{narrowOp, narrowStage, effectiveStages, anyOfThree, effective}
 use Rattle.values.specs.Flags.{stageFlagsBad}
 use Rattle.values.specs.declared.Stage.{Stage}
 use Rattle.values.specs.declared.Key.{Key}
-
-unfoldable pub narrowed : ℕ → List Stage → List Stage
-narrowed zero l = l
-narrowed (suc i) [] = []
-narrowed (suc i) (s ∷ r) = narrowStage s ∷ narrowed i r
-
-pub all-narrowed : (i : ℕ) (l : List Stage) → length l ≤ i → narrowed i l ≡ map narrowStage l
-unfolding narrowed
-all-narrowed zero [] h = refl
-all-narrowed zero (s ∷ r) h = absurd (omega arith)
-all-narrowed (suc i) [] h = refl
-all-narrowed (suc i) (s ∷ r) h = ap (λ (l : List Stage). narrowStage s ∷ l) (all-narrowed i r (omega arith))
-
--- one more is narrowed by storing it
-stored : (i : ℕ) (l : List Stage) (d : Stage) → i < length l → set (narrowed i l) i (narrowStage (getD l i d)) ≡ narrowed (suc i) l
-unfolding narrowed
-stored i [] d h = absurd (omega arith)
-stored zero (s ∷ r) d h = refl
-stored (suc i) (s ∷ r) d h = ap (λ (l : List Stage). narrowStage s ∷ l) (stored i r d (omega arith))
-
-pub next-stored : (l : List Stage) (i : ℕ) (d : Stage) → i < length l → set (narrowed i l) i (narrowStage (getD l i d)) ≡ narrowed (i + 1) l
-next-stored l i d h = rw add-one (stored i l d h)
 
 narrow-flags : (l : List Stage) → stageFlagsBad (map narrowStage l) ≡ stageFlagsBad l
 unfolding stageFlagsBad

@@ -1,40 +1,16 @@
 -- A key of either kind as one of kind 6: its stages, and that a write does to them what it does to the key.
-use Prim.Native.Nat.{ℕ, zero, suc, _+_, _≤_, _<_}
+use Prim.Native.Nat.{ℕ, zero, suc}
 use mathlib.Core.Path.{_≡_, refl, sym, ap, _∙_}
 use mathlib.Core.Bool.{Bool, true, false, _||_, cond}
 use mathlib.Core.List.{List, [], _∷_, map}
-use native.Mathlib.Omega.{arith}
-use native.Mathlib.Numerals.{add-one}
 use lib.Dec.{eqb}
-use lib.ListN.{length, getD, set, length-map, List·getD-map}
+use lib.ListN.{length, set, length-map, List·getD-map}
 use Rattle.values.specs.declared.Stage.{Stage}
 use Rattle.values.specs.declared.Key.{Key}
 use Rattle.states.specs.Types.{alphaArg0, colourArg0, setsArg0}
 use Rattle.values.specs.Kinds.{sevenBytes}
 use Rattle.states.specs.States.{defaultStage, setStage, setState, stageAt, stagesFor, wideStages}
 use Rattle.states.proofs.Stages.{neither}
-
--- the first i stages as seven bytes say them, and those behind them as they were
-unfoldable pub sevenFirst : ℕ → List Stage → List Stage
-sevenFirst zero l = l
-sevenFirst (suc i) [] = []
-sevenFirst (suc i) (s ∷ r) = sevenBytes s ∷ sevenFirst i r
-
-pub all-seven : (i : ℕ) (l : List Stage) → length l ≤ i → sevenFirst i l ≡ map sevenBytes l
-unfolding sevenFirst
-all-seven zero [] h = refl
-all-seven zero (s ∷ r) h = absurd (omega arith)
-all-seven (suc i) [] h = refl
-all-seven (suc i) (s ∷ r) h = ap (λ (l : List Stage). sevenBytes s ∷ l) (all-seven i r (omega arith))
-
-stored : (i : ℕ) (l : List Stage) (d : Stage) → i < length l → set (sevenFirst i l) i (sevenBytes (getD l i d)) ≡ sevenFirst (suc i) l
-unfolding sevenFirst
-stored i [] d h = absurd (omega arith)
-stored zero (s ∷ r) d h = refl
-stored (suc i) (s ∷ r) d h = ap (λ (l : List Stage). sevenBytes s ∷ l) (stored i r d (omega arith))
-
-pub next-seven : (l : List Stage) (i : ℕ) (d : Stage) → i < length l → set (sevenFirst i l) i (sevenBytes (getD l i d)) ≡ sevenFirst (i + 1) l
-next-seven l i d h = rw add-one (stored i l d h)
 
 -- as many stages, and each of them by the key's kind
 pub wide-length : (k : Key) → length (wideStages k) ≡ length (k .stages)
