@@ -1,4 +1,4 @@
--- A state write done to the body of a key as it lies. Only inner contracts cite it.
+-- A state write done to the body of a key as it lies. Only the contract of `wire::alter::alter` cites it, which the C interface calls.
 use Prim.Native.Nat.{ℕ, _≤_}
 use mathlib.Core.Path.{_≡_}
 use mathlib.Core.Bool.{Bool, true}

@@ -162,7 +162,7 @@ pub fn wide_key(body: &[u8]) -> Key
 }
 
 // A key of kind 6, if it is wide, or of kind 1.
-pub fn key_from_body(body: &[u8], wide: bool) -> Key
+fn key_from_body(body: &[u8], wide: bool) -> Key
     requires { ⌜ bodyLength (keyKind wide) ≤ length (now body) ⌝ }
     ensures { λ r. ⌜ r ≡ keyFromBody wide (now (body .entry)) ⌝ }
 {
