@@ -44,7 +44,7 @@ ghost use Rattle.yuzuknoll.specs.Applying.{appliedNumbers, heldLength, h
 // A record's kind and length, and a result.
 const APPLIED_LENGTH: usize = 10;
 
-// Emission from the held values.
+// Emission from the held values. A key of kind 1 is read first, as in yuzuknoll_emit.
 fn emit_held(held: &[u8], text: &mut [u8], result: &mut [u64; RESULT_LENGTH]) -> u64
     requires { ⌜ length (now held) ≡ heldLength ⌝ }
     ensures number { λ r. ⌜ r ≡ emitNumber (heldOf (now (held .entry))) (length (now (text .entry))) ⌝ }
@@ -52,6 +52,7 @@ fn emit_held(held: &[u8], text: &mut [u8], result: &mut [u64; RESULT_LENGTH]) ->
     ensures result { λ r. ⌜ now (result .exit) ≡ after r (resultWith Kind.Emit (heldOf (now (held .entry)))) (now (result .entry)) ⌝ }
     ensures names { λ r. ⌜ (r ≡ 0 → ReportedDemands (heldOf (now (held .entry)) .key) (now (text .exit)) (now (result .exit))) ⌝ }
 {
+    let raw = raw_key(&held[KEY_BODY..VARIANT_PLACE]);
     if !holds_all(held) {
         return refuse(Refusal::EmitTooEarly);
     }
@@ -64,8 +65,7 @@ fn emit_held(held: &[u8], text: &mut [u8], result: &mut [u64; RESULT_LENGTH]) ->
     if any_byte_of_three(&held[KEY_BODY..VARIANT_PLACE]) {
         return emit_rewritten(&held[KEY_BODY..VARIANT_PLACE], variant, entry, text, result);
     }
-    let key = raw_key(&held[KEY_BODY..VARIANT_PLACE]);
-    emit_values(key, variant, entry, text, result)
+    emit_values(raw, variant, entry, text, result)
 }
 
 fn report_applied(kind: Kind, result: [u64; RESULT_LENGTH], applied: &mut [u64; APPLIED_LENGTH])

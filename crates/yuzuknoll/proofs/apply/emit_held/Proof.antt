@@ -29,8 +29,11 @@ module _ (c : tie.After-entry-from-body) where
   abbrev passed : tie.Else1
   passed = variant-read .before .before
 
+  abbrev key-read : tie.After-raw-key
+  key-read = passed .before .before
+
   abbrev held : List ℕ
-  held = passed .before .before .before .before .args .held .now
+  held = key-read .before .before .before .before .args .held .now
 
   abbrev body : List ℕ
   body = heldBody kind.Key held
@@ -82,30 +85,29 @@ returns-3 c =
 
 raw-requires : tie.Need-emit-values-requires-2
 raw-requires c κs =
-    let key = c .before .before in
-    let none = key .before .before in
+    let none = c .before .before in
     let asked = none .before in
     let test = asked .before .before in
     let e = test .before .before in
-    takes-place (raw-in-place (body e) _ _ (sym (asked .any-byte-of-three .ensures) ∙ none .if3 .left)) (key .raw-key .ensures) (free e (narrow test))
+    takes-place (raw-in-place (body e) _ _ (sym (asked .any-byte-of-three .ensures) ∙ none .if3 .left)) (key-read e .raw-key .ensures) (free e (narrow test))
 
 returns-4 : tie.Need-returns-4
 returns-4 c =
     let m = c .before .before in
-    let key = m .before .before .before in
-    let none = key .before .before in
+    let none = m .before .before .before in
     let asked = none .before in
     let test = asked .before .before in
     let e = test .before .before in
     let place = raw-in-place (body e) _ _ (sym (asked .any-byte-of-three .ensures) ∙ none .if3 .left) in
-    emitted e (narrow test) _ _ (placed-emits place _ _ (key .raw-key .ensures) (m .emit-values2 .ensures))
+    emitted e (narrow test) _ _ (placed-emits place _ _ (key-read e .raw-key .ensures) (m .emit-values2 .ensures))
 
 pub emit-held-spec : {M : Type 1} → statement M
 emit-held-spec {M} =
-    let early = tie.spec {M = M} (λ c κs. search needs) (λ c κs. tt) returns in
+    let raw = tie.spec {M = M} (λ c. search needs) (λ c. search needs) (λ c. search needs) (λ c κs. search needs) in
+    let early = raw (λ c κs. search needs) (λ c κs. tt) returns in
     let variant = early (λ c. search needs) (λ c. search needs) (λ c. search needs) (λ c κs. search needs) in
     let entry = variant (λ c. search needs) (λ c. search needs) (λ c. search needs) (λ c κs. search needs) (λ c. search needs) in
     let wide = entry (λ c. search needs) (λ c. search needs) (λ c. search needs) (λ c κs. search needs) wide-requires (λ c. search needs) returns-2 in
     let asked = wide (λ c. search needs) (λ c. search needs) (λ c. search needs) (λ c κs. search needs) in
     let rewritten = asked (λ c. search needs) (λ c. search needs) (λ c. search needs) rewritten-requires (λ c. search needs) returns-3 in
-    tie.close (rewritten (λ c. search needs) (λ c. search needs) (λ c. search needs) (λ c κs. search needs) raw-requires (λ c. search needs) returns-4)
+    tie.close (rewritten raw-requires (λ c. search needs) returns-4)
