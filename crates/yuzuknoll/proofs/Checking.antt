@@ -1,43 +1,19 @@
--- The numbers of a record's bytes, from the tests of the code; and what number 0 tells of the record.
-use Prim.Native.Nat.{ℕ, suc, _-_, _<_, _≤_}
+-- What number 0 tells of the record at the front of some bytes: that it was taken, and its kind.
+use Prim.Native.Nat.{ℕ}
 use mathlib.Core.Bool.{cond}
 use mathlib.Core.Path.{_≡_, refl, sym, ap, _∙_}
-use mathlib.Core.List.{List, [], _∷_}
-use native.Mathlib.Omega.{arith}
-use borrow.Author.Tests.{lt-ltb, le-ltb, ne-eqb}
-use lib.Dec.{eqb, ltb}
-use lib.ListN.{length, take, drop, getD}
-use lib.Seq.{take-all}
-use Rattle.wire.specs.Bodies.{kindByte, bodyLength}
-use Rattle.wire.specs.Reading.{byKind, readRecord, bodyNumber, recordNumber}
+use mathlib.Core.List.{List}
+use borrow.Author.Tests.{ne-eqb}
+use lib.Dec.{eqb}
+use lib.ListN.{getD}
+use Rattle.wire.specs.Bodies.{kindByte}
+use Rattle.wire.specs.Reading.{readRecord, recordNumber}
 use Rattle.wire.specs.declared.Kind.{Kind}
 use Rattle.wire.specs.declared.Kind.the-variants as kind
 use Rattle.wire.specs.declared.Reading.{Reading}
 use Rattle.wire.proofs.Found.{Taken, read-either}
 use Rattle.yuzuknoll.specs.Records.{kindIn}
 use Rattle.yuzuknoll.proofs.Lent.{not-zero}
-
--- no byte, and some
-pub number-none : (l : List ℕ) → length l ≤ 0 → 1 ≡ recordNumber l
-unfolding recordNumber
-number-none [] h = refl
-number-none (x ∷ l) h = absurd (omega arith)
-
-abbrev behind : ℕ → List ℕ → ℕ
-behind byte body = byKind byte (λ k. cond (ltb (length body) (bodyLength k)) 1 (bodyNumber k body)) 2
-
-pub number-some : (l : List ℕ) → 0 < length l → behind (getD l 0 0) (take (length l - 1) (drop 1 l)) ≡ recordNumber l
-unfolding recordNumber
-number-some [] h = absurd (omega arith)
-number-some (x ∷ l) h = ap (behind x) (take-all (suc (length l) - 1) l (omega arith))
-
--- a body that is cut short, and one that is not
-pub cut-short : (k : Kind) {m n : ℕ} (b : List ℕ) → n ≡ bodyLength k → length b < n → m ≡ 1 → m ≡ cond (ltb (length b) (bodyLength k)) 1 (bodyNumber k b)
-cut-short k b e h q = rw (lt-ltb (length b) (bodyLength k) (rw e at h)) q
-
-pub not-short : {j k : Kind} {m n : ℕ} (b : List ℕ) → n ≡ bodyLength k → k ≡ j → n ≤ length b → m ≡ bodyNumber j b →
-    m ≡ cond (ltb (length b) (bodyLength k)) 1 (bodyNumber k b)
-not-short {k = k} b e t h q = rw (le-ltb (length b) (bodyLength k) (rw e at h), t) q
 
 -- number 0: the record was taken
 pub taken : (b : List ℕ) → recordNumber b ≡ 0 → Taken b (readRecord b .found)

@@ -1,12 +1,11 @@
 -- A key of kind 1 read as its bytes lie, without an op of three operands, is emitted in the place of the key that they stand for; and one of kind 6 as it is.
-use Prim.Native.Nat.{ℕ, zero, suc, _+_, _<_}
-use mathlib.Core.Bool.{Bool, true, false, _||_, or-false, true≢false}
+use Prim.Native.Nat.{ℕ, zero, suc, _<_}
+use mathlib.Core.Bool.{Bool, true, false, _||_, true≢false}
 use mathlib.Core.Path.{_≡_, refl, sym, ap, _∙_}
-use mathlib.Core.List.{List, [], _∷_, _++_}
+use mathlib.Core.List.{List, [], _∷_}
 use native.Mathlib.Omega.{arith}
-use native.Mathlib.Numerals.{add-one}
-use lib.ListN.{length, take, getD}
-use lib.Seq.{getD-drop, getD-take, take-suc}
+use lib.ListN.{take, getD}
+use lib.Seq.{getD-drop, getD-take}
 use Rattle.combiners.specs.Combiners.{threeOperands}
 use Rattle.values.specs.Flags.{stageFlagsBad}
 use Rattle.values.specs.Kinds.{narrow}
@@ -19,7 +18,7 @@ use Rattle.shader.specs.Results.{textOf, emittedOf}
 use Rattle.shader.proofs.Narrow.{kind-one-text, kind-one-emitted}
 use Rattle.emission.proofs.InPlace.{InPlace}
 use Rattle.wire.specs.Bodies.{stagesFromBytes, keyFromBody}
-use Rattle.yuzuknoll.specs.Raw.{rawStages, rawKey, anyByteOfThree}
+use Rattle.inspection.specs.Raw.{rawStages, rawKey, anyByteOfThree}
 
 neither-of : (a b : Bool) → (a || b) ≡ false → (a ≡ false) × (b ≡ false)
 neither-of true b e = absurd (true≢false e)
@@ -33,20 +32,6 @@ narrow-raw b = simp getD-drop
 raw-flags : (b : List ℕ) → stageFlagsBad (rawKey b .stages) ≡ stageFlagsBad (keyFromBody false b .stages)
 unfolding rawKey keyFromBody stagesFromBytes stageFlagsBad
 raw-flags b = simp getD-drop
-
--- one byte more
-any-behind : (l : List ℕ) (x : ℕ) → anyByteOfThree (l ++ (x ∷ [])) ≡ anyByteOfThree l || threeOperands x
-unfolding anyByteOfThree
-any-behind [] x = or-false (threeOperands x)
-any-behind (y ∷ l) x = rw (any-behind l x) (sym (or-assoc (threeOperands y) (anyByteOfThree l) (threeOperands x)))
-  where
-    or-assoc : (a b c : Bool) → ((a || b) || c) ≡ (a || (b || c))
-    or-assoc true b c = refl
-    or-assoc false b c = refl
-
-pub byte-asked : (l : List ℕ) (i : ℕ) {found here : Bool} → i < length l → found ≡ anyByteOfThree (take i l) → here ≡ threeOperands (getD l i 0)
-    → (found || here) ≡ anyByteOfThree (take (i + 1) l)
-byte-asked l i h f t = rw (f, t, add-one, take-suc l i 0 h) (sym (any-behind (take i l) (getD l i 0)))
 
 -- where no byte is one of an op of three operands, no op is
 none : (l : List ℕ) → anyByteOfThree l ≡ false → (i : ℕ) → threeOperands (getD l i 0) ≡ false

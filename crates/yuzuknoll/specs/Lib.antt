@@ -1,5 +1,4 @@
 pub mod Lent
-pub mod Raw
 pub mod Emitting
 pub mod Entries
 pub mod Records

@@ -1,12 +1,8 @@
 //! The record at the front of some bytes, applied to the held key, variant and entry, which the caller keeps as the bytes of their records.
-use crate::ACCEPTED;
 use crate::alter::alter_held;
-use crate::check::record_number;
 use crate::emit::RESULT_LENGTH;
 use crate::emit::emit_rewritten;
 use crate::emit::emit_values;
-use crate::keys::any_byte_of_three;
-use crate::keys::raw_key;
 use crate::parts::ENTRY_BODY;
 use crate::parts::ENTRY_PLACE;
 use crate::parts::HELD_LENGTH;
@@ -17,7 +13,11 @@ use crate::parts::VARIANT_PLACE;
 use crate::parts::holds_all;
 use crate::parts::place_of;
 use crate::read::kind_in;
-use crate::refuse;
+use inspection::ACCEPTED;
+use inspection::causes::record_number;
+use inspection::keys::any_byte_of_three;
+use inspection::keys::raw_key;
+use inspection::refuse;
 use text::put;
 use values::Refusal;
 use wire::KIND_WIDE_KEY;

@@ -1,16 +1,16 @@
 //! Emission from the bodies of a key, a variant and an entry.
-use crate::ACCEPTED;
-use crate::check::entry_number;
-use crate::check::narrow_key_number;
-use crate::check::variant_number;
-use crate::check::wide_key_number;
-use crate::keys::any_byte_of_three;
-use crate::keys::raw_key;
-use crate::refuse;
 use cascade::effective::effective;
 use emission::Answer;
 use emission::Emitted;
 use emission::emit_checked;
+use inspection::ACCEPTED;
+use inspection::causes::entry_number;
+use inspection::causes::narrow_key_number;
+use inspection::causes::variant_number;
+use inspection::causes::wide_key_number;
+use inspection::keys::any_byte_of_three;
+use inspection::keys::raw_key;
+use inspection::refuse;
 use values::Entry;
 use values::Key;
 use values::Variant;

@@ -2,23 +2,8 @@
 //! that the caller lends. A refusal changes nothing that is lent.
 mod alter;
 mod apply;
-mod check;
 mod emit;
 mod entry;
-mod keys;
 mod parts;
 mod read;
 mod write;
-
-use values::Refusal;
-use values::number;
-ghost use mathlib.Core.Path.{_≡_};
-ghost use Rattle.values.specs.Refusals.{numberOf};
-
-const ACCEPTED: u64 = 0;
-
-fn refuse(cause: Refusal) -> u64
-    ensures { λ r. ⌜ r ≡ numberOf cause ⌝ }
-{
-    number(cause) as u64
-}

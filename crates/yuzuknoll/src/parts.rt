@@ -1,6 +1,6 @@
 //! The parts of the held bytes, and what they hold.
-use crate::ACCEPTED;
-use crate::check::kind_number;
+use inspection::ACCEPTED;
+use inspection::causes::kind_number;
 use values::Key;
 use wire::KIND_WIDE_KEY;
 use wire::Kind;

@@ -1,6 +1,6 @@
 //! The record at the front of some bytes.
-use crate::ACCEPTED;
-use crate::check::record_number;
+use inspection::ACCEPTED;
+use inspection::causes::record_number;
 use wire::KIND_ENTRY;
 use wire::KIND_KEY;
 use wire::KIND_STATE;

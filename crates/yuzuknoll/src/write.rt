@@ -1,9 +1,9 @@
 //! The record at the front of some bytes, written to the front of a buffer.
-use crate::ACCEPTED;
-use crate::check::record_number;
 use crate::read::kind_in;
 use crate::read::report_record;
-use crate::refuse;
+use inspection::ACCEPTED;
+use inspection::causes::record_number;
+use inspection::refuse;
 use text::put;
 use values::Refusal;
 use wire::record_length;

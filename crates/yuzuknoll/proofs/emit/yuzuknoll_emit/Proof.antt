@@ -7,7 +7,7 @@ use borrow.Author.Needs.{needs}
 use Rattle.values.specs.Admitted.{Admitted}
 use Rattle.wire.specs.Bodies.{keyFromBody}
 use Rattle.emission.proofs.InPlace.{InPlace, takes-place}
-use Rattle.yuzuknoll.specs.Raw.{rawKey}
+use Rattle.inspection.specs.Raw.{rawKey}
 use Rattle.yuzuknoll.proofs.Raw.{raw-in-place}
 use Rattle.yuzuknoll.proofs.Emitting.{cause, placed-emits, bodies-admitted, bodies-refused, bodies-emitted}
 use Rattle.yuzuknoll.proofs.emit.yuzuknoll_emit.Statement.{statement}
