@@ -1,20 +1,20 @@
 //! The text of an expression: its operation's form, with its arguments in it.
-use crate::forms::Ending;
-use crate::forms::Form;
-use crate::forms::Joining;
-use crate::forms::Opening;
-use crate::forms::form_of;
-use crate::words::put_ending;
-use crate::words::put_joining;
-use crate::words::put_opening;
 use combiners::Arg;
 use combiners::Expression;
 use combiners::arguments::put_arg;
+use operations::forms::Ending;
+use operations::forms::Form;
+use operations::forms::Joining;
+use operations::forms::Opening;
+use operations::forms::form_of;
+use operations::words::put_ending;
+use operations::words::put_joining;
+use operations::words::put_opening;
 ghost use Prim.Native.Nat.{_<_};
 ghost use Rattle.text.specs.Buffer.{Wrote};
 ghost use Rattle.combiners.specs.Arguments.{argText};
 ghost use Rattle.combiners.specs.Combiners.{expressionText};
-ghost use Rattle.expressions.specs.Forms.{formText};
+ghost use Rattle.operations.specs.Forms.{formText};
 
 fn put_both(
     out: &mut [u8],

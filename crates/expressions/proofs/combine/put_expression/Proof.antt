@@ -6,9 +6,9 @@ use borrow.Author.Needs.{needs}
 use Rattle.text.specs.Text.{Text}
 use Rattle.text.specs.Buffer.{Wrote}
 use Rattle.text.proofs.Laws.{case}
-use Rattle.expressions.specs.declared.forms.Form.{Form}
-use Rattle.expressions.specs.Forms.{formText}
-use Rattle.expressions.proofs.Table.{in-form}
+use Rattle.operations.specs.declared.forms.Form.{Form}
+use Rattle.operations.specs.Forms.{formText}
+use Rattle.operations.proofs.Table.{in-form}
 use Rattle.expressions.proofs.combine.put_expression.Statement.{statement}
 use Rattle.expressions.proofs.combine.put_expression.Tie as tie
 

@@ -9,9 +9,9 @@ use text::put_numbered;
 ghost use Prim.Native.Nat.{_<_};
 ghost use Rattle.text.specs.Buffer.{Wrote};
 ghost use Rattle.combiners.specs.Arguments.{argText};
-ghost use Rattle.expressions.specs.Forms.{openingText, joiningText, endingText};
+ghost use Rattle.operations.specs.Forms.{openingText, joiningText, endingText};
 
-pub(crate) fn put_opening(out: &mut [u8], at: usize, w: Opening, z: Arg, stage: u8) -> usize
+pub fn put_opening(out: &mut [u8], at: usize, w: Opening, z: Arg, stage: u8) -> usize
     requires { ⌜ stage < 8 ⌝ }
     ensures { λ r. ⌜ Wrote (now (out .entry)) at (now (out .exit)) r (openingText (argText stage z) w) ⌝ }
 {
@@ -36,7 +36,7 @@ pub(crate) fn put_opening(out: &mut [u8], at: usize, w: Opening, z: Arg, stage: 
     }
 }
 
-pub(crate) fn put_joining(out: &mut [u8], at: usize, w: Joining, x: Arg, z: Arg, stage: u8) -> usize
+pub fn put_joining(out: &mut [u8], at: usize, w: Joining, x: Arg, z: Arg, stage: u8) -> usize
     requires { ⌜ stage < 8 ⌝ }
     ensures { λ r. ⌜ Wrote (now (out .entry)) at (now (out .exit)) r (joiningText stage (argText stage x) (argText stage z) w) ⌝ }
 {
@@ -68,7 +68,7 @@ pub(crate) fn put_joining(out: &mut [u8], at: usize, w: Joining, x: Arg, z: Arg,
     }
 }
 
-pub(crate) fn put_ending(out: &mut [u8], at: usize, w: Ending, x: Arg, stage: u8) -> usize
+pub fn put_ending(out: &mut [u8], at: usize, w: Ending, x: Arg, stage: u8) -> usize
     requires { ⌜ stage < 8 ⌝ }
     ensures { λ r. ⌜ Wrote (now (out .entry)) at (now (out .exit)) r (endingText stage (argText stage x) w) ⌝ }
 {

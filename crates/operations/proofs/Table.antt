@@ -11,8 +11,8 @@ use Rattle.combiners.specs.Combiners.{opText, expressionText}
 use Rattle.combiners.specs.declared.Op.{Op}
 use Rattle.combiners.specs.declared.Op.the-variants.{SelectArg1, SelectArg2, Modulate, Modulate2X, Modulate4X, Add, AddSigned, AddSigned2X, Subtract, AddSmooth, BlendDiffuseAlpha, BlendTextureAlpha, BlendFactorAlpha, BlendTextureAlphaPM, BlendCurrentAlpha, ModulateAlphaAddColor, ModulateColorAddAlpha, ModulateInvAlphaAddColor, ModulateInvColorAddAlpha, DotProduct3, Other, MultiplyAdd, Lerp}
 use Rattle.combiners.specs.declared.Expression.{Expression}
-use Rattle.expressions.specs.declared.forms.Form.{Form}
-use Rattle.expressions.specs.Forms.{formText, formOf}
+use Rattle.operations.specs.declared.forms.Form.{Form}
+use Rattle.operations.specs.Forms.{formText, formOf}
 
 module _ (i : ℕ) (a b z : Text) where
   pub right : (o : Op) (textured : Bool) → flat (formText i a b z (formOf textured o)) ≡ flat (opText i textured o a b z)

@@ -1,20 +1,20 @@
 -- The operations as the writers have them: the words before, between and behind the arguments.
--- Only contracts of private functions cite this file. `right`, in proofs/Table, shows that it says the same as the templates of `combiners`, which
--- the public contract cites; so nobody needs to believe it.
+-- Only contracts of functions that `expressions` alone calls cite this file. `right`, in proofs/Table, shows that it says the same as the templates
+-- of `combiners`, which the contract of `expressions` rests on; so nobody needs to believe it.
 use Prim.Native.Nat.{ℕ}
 use mathlib.Core.Bool.{Bool, cond}
 use Rattle.text.specs.Text.{Text, bytes, lit, _⊕_}
 use Rattle.text.specs.Marks.{numbered}
 use Rattle.combiners.specs.declared.Op.{Op}
 use Rattle.combiners.specs.declared.Op.the-variants.{SelectArg1, SelectArg2, Modulate, Modulate2X, Modulate4X, Add, AddSigned, AddSigned2X, Subtract, AddSmooth, BlendDiffuseAlpha, BlendTextureAlpha, BlendFactorAlpha, BlendTextureAlphaPM, BlendCurrentAlpha, ModulateAlphaAddColor, ModulateColorAddAlpha, ModulateInvAlphaAddColor, ModulateInvColorAddAlpha, DotProduct3, Other, MultiplyAdd, Lerp}
-use Rattle.expressions.specs.declared.forms.Opening.{Opening}
-use Rattle.expressions.specs.declared.forms.Opening.the-variants as O
-use Rattle.expressions.specs.declared.forms.Joining.{Joining}
-use Rattle.expressions.specs.declared.forms.Joining.the-variants as M
-use Rattle.expressions.specs.declared.forms.Ending.{Ending}
-use Rattle.expressions.specs.declared.forms.Ending.the-variants as C
-use Rattle.expressions.specs.declared.forms.Form.{Form}
-use Rattle.expressions.specs.declared.forms.Form.the-variants.{Arg1, Arg2, Both}
+use Rattle.operations.specs.declared.forms.Opening.{Opening}
+use Rattle.operations.specs.declared.forms.Opening.the-variants as O
+use Rattle.operations.specs.declared.forms.Joining.{Joining}
+use Rattle.operations.specs.declared.forms.Joining.the-variants as M
+use Rattle.operations.specs.declared.forms.Ending.{Ending}
+use Rattle.operations.specs.declared.forms.Ending.the-variants as C
+use Rattle.operations.specs.declared.forms.Form.{Form}
+use Rattle.operations.specs.declared.forms.Form.the-variants.{Arg1, Arg2, Both}
 
 -- i is the stage; a, b and z are the texts of arguments 1, 2 and 0
 abbrev pub openingText : Text → Opening → Text

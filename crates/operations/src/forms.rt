@@ -1,10 +1,10 @@
 //! The operations as one table: which arguments an operation's text has, and the words around them.
 use combiners::Op;
 ghost use mathlib.Core.Path.{_≡_};
-ghost use Rattle.expressions.specs.Forms.{formOf};
+ghost use Rattle.operations.specs.Forms.{formOf};
 
 // The words before argument 1. Those that name argument 0 have its text in them. As in Microsoft's names, the inverse of a value is one minus the value.
-pub(crate) enum Opening {
+pub enum Opening {
     Bracket,
     Saturate,
     SaturateTwice,
@@ -17,7 +17,7 @@ pub(crate) enum Opening {
 }
 
 // The words between argument 1 and argument 2. Those that name argument 0 or 1 repeat its text.
-pub(crate) enum Joining {
+pub enum Joining {
     Times,
     Plus,
     Minus,
@@ -33,7 +33,7 @@ pub(crate) enum Joining {
 }
 
 // The words behind argument 2. Those that name argument 1 repeat its text.
-pub(crate) enum Ending {
+pub enum Ending {
     Bracket,
     MinusHalf,
     MinusHalfSum,
@@ -47,14 +47,14 @@ pub(crate) enum Ending {
 }
 
 // Argument 1 or 2 alone, or both with words around them.
-pub(crate) enum Form {
+pub enum Form {
     Arg1,
     Arg2,
     Both(Opening, Joining, Ending),
 }
 
 // The table: a row for each operation.
-pub(crate) fn form_of(op: Op, textured: bool) -> Form
+pub fn form_of(op: Op, textured: bool) -> Form
     ensures { λ r. ⌜ r ≡ formOf textured op ⌝ }
 {
     match op {

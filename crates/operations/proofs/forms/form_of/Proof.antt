@@ -1,7 +1,7 @@
 -- Each arm answers its row of `formOf`.
 use borrow.Author.Needs.{needs}
-use Rattle.expressions.proofs.forms.form_of.Statement.{statement}
-use Rattle.expressions.proofs.forms.form_of.Tie as tie
+use Rattle.operations.proofs.forms.form_of.Statement.{statement}
+use Rattle.operations.proofs.forms.form_of.Tie as tie
 
 pub form-of-spec : {M : Type 1} → statement M
 form-of-spec =

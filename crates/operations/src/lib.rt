@@ -1,0 +1,3 @@
+//! The operations as one table, and its words written.
+pub mod forms;
+pub mod words;
