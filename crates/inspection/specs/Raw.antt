@@ -1,5 +1,5 @@
 -- A key of kind 1 as its bytes lie. An argument 0, which no op of such a key has, is the byte behind its combiner's three, so that four bytes are read at
--- once. Only inner contracts cite it.
+-- once. Only contracts of functions that the C interface calls cite it.
 use Prim.Native.Nat.{ℕ}
 use mathlib.Core.Bool.{Bool, false, _||_}
 use mathlib.Core.List.{List, [], _∷_}
