@@ -21,6 +21,8 @@ pub record Report : Type 0 where
   pub cause : Cause
   pub stage : ℕ
 
+-- 02, of MULTIPLYADD and LERP: "in kind 6 these ops give no warning 1". In a key of kind 1 they take effect as an op without a text
+-- (cascade/specs/Effective), which does.
 abbrev pub withoutText : ℕ → Bool
 withoutText o = not (hasText o)
 

@@ -1,17 +1,16 @@
 -- Demand 3: what the text of an accepted emission says of its names, and what its result says of the text and of the key.
 -- 01: "Lookups in the result are the emitter's own count, one for each lookup that it wrote." Here that count is held to the text, to the reading
--- rule and to the mask.
+-- rule and to the mask. It is said of keys of both kinds; 02, of kind 6: "names, `ps_c` rows, lookups and mask obey the mission's third property for it".
 use Prim.Native.Nat.{ℕ, zero, suc, _+_, _/_, _%_, _≤_, _<_}
 use mathlib.Core.Bool.{Bool, cond}
 use mathlib.Core.Path.{_≡_}
 use mathlib.Core.List.{List, [], _∷_, _++_}
-use lib.Dec.{eqb}
 use lib.ListN.{take}
 use Rattle.cascade.specs.Effective.{activeStages}
 use Rattle.cascade.specs.Reading.{live, lookupsOf}
-use Rattle.values.specs.Listed.{Name, name}
+use Rattle.values.specs.Listed.{Name}
 use Rattle.shader.specs.Names.{sameName, Occurrence, declaration, usage, row, occurrences}
-use Rattle.shader.specs.Idle.{NoIdle}
+use Rattle.shader.specs.Idle.{isWord, NoIdle}
 use Rattle.values.specs.declared.Key.{Key}
 use Rattle.values.specs.declared.Emitted.{Emitted}
 use Rattle.values.specs.declared.Answer.{Answer}
@@ -24,9 +23,9 @@ declared n (declaration m ∷ l) = cond (sameName n m) 1 0 + declared n l
 declared n (usage m ∷ l) = declared n l
 declared n (row k ∷ l) = declared n l
 
--- one of t0 to t7: place 15 of the list is `t`
+-- one of t0 to t7
 abbrev pub isTexel : Name → Bool
-isTexel (name k i) = eqb k 15
+isTexel n = isWord "t" n
 
 -- how many declarations of t0 to t7 there are
 abbrev pub texels : List Occurrence → ℕ

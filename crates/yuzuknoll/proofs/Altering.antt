@@ -1,5 +1,5 @@
--- A state write on held bytes: all of the key that it alters stands in a record free of cause 3, and so does all of the altered key, whose record is
--- therefore written over the front of the bytes.
+-- A state write on held bytes: all of the key that it alters stands in a record free of cause 3, and so does all of the altered key. So its record can be
+-- written over the front of the bytes; and where the write leaves the kind of a held key, altering its stage where it lies comes to the same.
 use Prim.Native.Nat.{ℕ, _-_, _≤_}
 use mathlib.Core.Bool.{Bool, true, false, not, _&&_, _||_, cond, false≢true}
 use mathlib.Core.Path.{_≡_, refl, sym, ap, _∙_}
