@@ -1,4 +1,4 @@
-//! Records inspected on their bytes, of which no value is made: what they are refused for, and a key of kind 1 as it lies.
+//! Records inspected on their bytes: what they are refused for, and a key of kind 1 as it lies.
 pub mod causes;
 pub mod keys;
 

@@ -42,7 +42,7 @@ fn key_or_defaults(held: &[u8]) -> Key
     defaults()
 }
 
-// Any other write leaves the record of the altered key.
+// A write that leaves the kind of a held key is done where the key lies. Any other leaves the record of the altered key.
 pub(crate) fn alter_held(held: &mut [u8], made: StateWrite)
     requires { ⌜ (length (now held) ≡ heldLength) × (accepted made ≡ true) ⌝ }
     ensures { λ _. ⌜ now (held .exit) ≡ sets (now (held .entry)) 0 (alteredRecord made (now (held .entry))) ⌝ }
