@@ -1,4 +1,6 @@
 //! The causes for which values are refused: stage flags, variant flags, the entry.
+#![tactic(auto)]
+
 pub mod entry;
 pub mod words;
 

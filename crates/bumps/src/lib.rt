@@ -1,4 +1,6 @@
 //! Bump stages: the coordinate that one displaces, the texel that one scales, and all that a lookup behind one writes.
+#![tactic(auto)]
+
 ghost use Rattle.std.specs.Prelude.{◌<◌, ◌+◌, ◌*◌, false};
 ghost use Rattle.text.specs.Text.{lit, pick, when, ◌⊕◌};
 ghost use Rattle.text.specs.Marks.{numbered};

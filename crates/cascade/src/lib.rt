@@ -1,4 +1,6 @@
 //! The cascade of a key: its active stages, and what each reads and writes.
+#![tactic(auto)]
+
 pub mod decode;
 pub mod effective;
 pub mod keys;

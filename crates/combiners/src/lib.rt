@@ -1,4 +1,6 @@
 //! Arguments and operations: Microsoft's codes, an argument byte and an op code decoded, what they warn of, and an argument's text written.
+#![tactic(auto)]
+
 pub mod arguments;
 pub mod codes;
 pub mod ops;

@@ -1,4 +1,6 @@
 //! Emission from values: a key, a variant and an entry to Metal text in a lent buffer.
+#![tactic(auto)]
+
 ghost use Rattle.std.specs.Prelude.{◌≤◌, ◌<◌, ◌≡◌, length};
 ghost use Rattle.text.specs.Text.{flat};
 ghost use Rattle.cascade.specs.Keys.{active};

@@ -1,4 +1,6 @@
 //! The program: records from standard input, and the texts that they ask for.
+#![tactic(auto)]
+
 ghost use Rattle.std.specs.Prelude.{◌≤◌, length};
 
 use emission::front;

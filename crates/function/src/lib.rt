@@ -1,4 +1,6 @@
 //! The whole text, and the lookups and lines of its stages.
+#![tactic(auto)]
+
 mod stages;
 
 ghost use Rattle.std.specs.Prelude.{◌≤◌, ◌≡◌};

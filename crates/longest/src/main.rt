@@ -1,4 +1,6 @@
 //! The program: the length of the longest text of a key of kind 1 with an entry of one byte, and the records of a key and a variant that reach it.
+#![tactic(auto)]
+
 ghost use Rattle.std.specs.Prelude.{◌≡◌};
 ghost use Rattle.longest.specs.Lines.{longest_lines, Longest};
 

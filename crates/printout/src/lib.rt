@@ -1,4 +1,6 @@
 //! What the program prints for an input, handed out a record at a time.
+#![tactic(auto)]
+
 pub mod lines;
 
 ghost use Rattle.std.specs.Prelude.{◌+◌, ◌<◌, ◌≤◌, ◌^◌, ◌≡◌, false, length};

@@ -1,4 +1,6 @@
 //! The held values, and the record at the front of some bytes applied to them.
+#![tactic(auto)]
+
 ghost use Rattle.std.specs.Prelude.{◌≡◌, length};
 ghost use Rattle.records.specs.Applying.{AppliedDemands, applied, applied_number, apply_as, apply_number, emit_number, holding, holds_all, key_or_defaults, nothing_held, text_after};
 

@@ -1,4 +1,6 @@
 //! Replays the list of the Rust's answers, and prints which cases differ, and how many. oracle/list/README.md says how the list is laid out.
+#![tactic(auto)]
+
 ghost use Rattle.std.specs.Prelude.{◌+◌, ◌≤◌, ◌<◌, ◌≡◌, true, length};
 
 use libc::STDOUT_FILENO;

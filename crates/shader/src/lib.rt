@@ -1,4 +1,6 @@
 //! What shapes a lookup, with the definition of the text, of what is answered and of the listed names, and what is proved of them: no code.
+#![tactic(auto)]
+
 
 // A coordinate of a stage: as interpolated, divided by its w, displaced by the stage before, or divided for a depth comparison.
 #[derive(Drop)]

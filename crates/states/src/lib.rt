@@ -1,4 +1,6 @@
 //! Texture stage states: the key that Direct3D starts from, and writes that alter a key.
+#![tactic(auto)]
+
 ghost use Rattle.std.specs.Prelude.{◌≡◌, cond};
 ghost use Rattle.values.specs.Kinds.{seven_bytes, three_bytes};
 ghost use Rattle.states.specs.Types.{is_type, sets_arg0, takes};

@@ -1,6 +1,6 @@
 -- The laws of writing: one text behind another is the two joined; a text that fits is written whole; which of two texts; a text's length.
 use Prim.Native.Nat.{ℕ, zero, suc, ◌+◌, ◌%◌, ◌<◌, ◌≤◌}
-use mathlib.Core.Bool.{Bool, true, false, cond}
+use mathlib.Core.Bool.{Bool, true, false}
 use mathlib.Core.Path.{◌≡◌, refl, ap, sym, subst, ◌∙◌}
 use mathlib.Core.List.{List, [], ◌∷◌, ◌++◌, append_assoc}
 use mathlib.Core.Logic.{by_cases}
@@ -32,6 +32,7 @@ length-filled d [] = refl
 length-filled d (b ∷ s) = ap suc (length-filled d s)
 
 pub get_or-filled : (d : ℕ) (s : List ℕ) (i : ℕ) → i < length s → get_or (filled d s) i 0 ≡ filled_byte d (get_or s i 0)
+get_or-filled d [] i h = elim h [ ]
 get_or-filled d (b ∷ s) zero h = refl
 get_or-filled d (b ∷ s) (suc i) h = get_or-filled d s i (omega arith)
 

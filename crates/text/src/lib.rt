@@ -2,6 +2,8 @@
 //!
 //! Each function writes at a place of the buffer and returns the place behind the last byte. A piece that does not fit is not written, and
 //! the place returned is then outside the buffer, from where nothing fits any more.
+#![tactic(auto)]
+
 ghost use Rattle.std.specs.Prelude.{◌<◌, ◌≤◌, ◌+◌, ◌%◌, ◌≡◌, length};
 ghost use Rattle.std.proofs.lemmas.List.Edits.{sets};
 ghost use Rattle.text.specs.Text.{raw, pick, when, digit, decimal};

@@ -1,4 +1,6 @@
 //! The values that the libraries hand to one another: keys, variants, entries, what emission reports, and why a call is refused.
+#![tactic(auto)]
+
 ghost use Rattle.std.specs.Prelude.{◌≡◌};
 ghost use Rattle.values.specs.Refusals.{number_of};
 

@@ -1,4 +1,6 @@
 //! Records: the bytes of keys, variants, entries, emit requests and state writes, read and written.
+#![tactic(auto)]
+
 pub use values::{Combiner, Entry, Key, Stage, StateWrite, Variant};
 
 pub mod alter;
