@@ -7,7 +7,7 @@ pub mod ops;
 pub mod warnings;
 
 // Where an argument's value comes from.
-#[derive(Drop)]
+#[derive(Clone, Copy)]
 pub enum Source {
     Diffuse,
     Current,
@@ -19,7 +19,7 @@ pub enum Source {
     White,
 }
 
-#[derive(Drop)]
+#[derive(Clone, Copy)]
 pub struct Arg {
     pub source: Source,
     pub replicate: bool,
@@ -27,7 +27,7 @@ pub struct Arg {
 }
 
 // An operation that has a text of its own, by Microsoft's name, or another, which keeps argument 1's.
-#[derive(Drop)]
+#[derive(Clone, Copy)]
 pub enum Op {
     SelectArg1,
     SelectArg2,
@@ -55,7 +55,7 @@ pub enum Op {
 }
 
 // An operation with its arguments. MultiplyAdd and Lerp alone have argument 0 in their texts.
-#[derive(Drop)]
+#[derive(Clone, Copy)]
 pub struct Expression {
     pub op: Op,
     pub arg1: Arg,

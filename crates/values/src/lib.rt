@@ -5,7 +5,7 @@ ghost use Rattle.std.specs.Prelude.{◌≡◌};
 ghost use Rattle.values.specs.Refusals.{number_of};
 
 // An op and its arguments, in Direct3D 9's codes. Only ops of three operands have an argument 0.
-#[derive(Drop)]
+#[derive(Clone, Copy)]
 pub struct Combiner {
     pub op: u8,
     pub arg1: u8,
@@ -14,7 +14,7 @@ pub struct Combiner {
 }
 
 // A texture stage. Flag bit 0: a texture is bound; bit 1: the result goes to TEMP.
-#[derive(Drop)]
+#[derive(Clone, Copy)]
 pub struct Stage {
     pub colour: Combiner,
     pub alpha: Combiner,
@@ -23,7 +23,7 @@ pub struct Stage {
 
 // Bit i of projected is for stage i. A wide key, of record kind 6, has stages of nine bytes, with argument 0 of colour and of alpha; in another, of
 // kind 1 with stages of seven, no op has an argument 0.
-#[derive(Drop)]
+#[derive(Clone, Copy)]
 pub struct Key {
     pub stages: [Stage; 8],
     pub specular_add: bool,
@@ -32,7 +32,7 @@ pub struct Key {
 }
 
 // The render states beside the key that shape the text. Masks have bit i for stage i.
-#[derive(Drop)]
+#[derive(Clone, Copy)]
 pub struct Variant {
     pub alpha_func: u8,
     pub fog_mode: u8,
@@ -49,14 +49,14 @@ pub struct Variant {
 }
 
 // The name of the fragment function: its first len bytes, then zeros.
-#[derive(Drop)]
+#[derive(Clone, Copy)]
 pub struct Entry {
     pub len: u8,
     pub name: [u8; 32],
 }
 
 // A write of a texture stage state: a stage, the state's type by its number, and a value.
-#[derive(Drop)]
+#[derive(Clone, Copy)]
 pub struct StateWrite {
     pub stage: u8,
     pub state: u8,
@@ -64,7 +64,7 @@ pub struct StateWrite {
 }
 
 // What an accepted emission reports of its text. The masks, of textured stages and of those that warn, have bit i for stage i.
-#[derive(Drop)]
+#[derive(Clone, Copy)]
 pub struct Emitted {
     pub length: usize,
     pub mask: u8,
@@ -77,7 +77,7 @@ pub struct Emitted {
 }
 
 // Why a call is refused: 1 to 9 in order, then 13, then 10 to 12.
-#[derive(Drop)]
+#[derive(Clone, Copy)]
 pub enum Refusal {
     CutShort,
     UnknownKind,
@@ -95,7 +95,7 @@ pub enum Refusal {
 }
 
 // What emission from values answers.
-#[derive(Drop)]
+#[derive(Clone, Copy)]
 pub enum Answer {
     Text(Emitted),
     Refused(Refusal),
