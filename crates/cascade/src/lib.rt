@@ -12,7 +12,7 @@ mod warnings;
 use combiners::Expression;
 
 // Where a stage's alpha comes from.
-#[derive(Drop)]
+#[derive(Clone, Copy)]
 pub enum Alpha {
     FromColour,
     Kept,
@@ -20,21 +20,21 @@ pub enum Alpha {
 }
 
 // What a stage writes.
-#[derive(Drop)]
+#[derive(Clone, Copy)]
 pub struct Expressions {
     pub colour: Expression,
     pub alpha: Alpha,
 }
 
 // A stage with its expressions, or a bump stage, which has none.
-#[derive(Drop)]
+#[derive(Clone, Copy)]
 pub enum Decoded {
     Writes(Expressions),
     Bump,
 }
 
 // What a key says before any byte of text.
-#[derive(Drop)]
+#[derive(Clone, Copy)]
 pub struct Survey {
     pub count: usize,
     pub mask: u8,

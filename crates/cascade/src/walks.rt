@@ -14,7 +14,7 @@ use crate::warnings::{warned, warns_op};
 use values::{Key, Stage};
 
 // What the stages say each by itself: the mask, the last constant row, whether the factor is named and TEMP read, and the stages that warn.
-#[derive(Drop)]
+#[derive(Clone, Copy)]
 struct Facts {
     mask: u8,
     constant: u8,
@@ -26,7 +26,7 @@ struct Facts {
 }
 
 // What they say once it is known whether TEMP is live: whether the first is marked, all marks, and whether `bump_env` is read.
-#[derive(Drop)]
+#[derive(Clone, Copy)]
 struct Marks {
     next: bool,
     marks: u8,

@@ -54,7 +54,7 @@ pub(crate) fn warns_op(s: Stage) -> bool
 }
 
 // Of which of the three causes: that a combiner gives, or that a stage warns of.
-#[derive(Drop)]
+#[derive(Clone, Copy)]
 pub(crate) struct Causes {
     pub(crate) op: bool,
     pub(crate) selector: bool,
