@@ -58,6 +58,7 @@ fn combined(textured: bool, c: Combiner) -> Expression
     }
 }
 
+#[tactic(auto, unfolding(crate::specs::Stages::expression_of))]
 fn expression_of(textured: bool, c: Combiner) -> Expression
     ensures { result ≡ expression_of textured c }
 {
@@ -67,6 +68,7 @@ fn expression_of(textured: bool, c: Combiner) -> Expression
     combined(textured, c)
 }
 
+#[tactic(auto, unfolding(crate::specs::Stages::alpha_of))]
 fn alpha_of(s: Stage) -> Alpha
     ensures { result ≡ alpha_of s }
 {
@@ -89,6 +91,7 @@ fn alpha_of(s: Stage) -> Alpha
     Alpha::Written(e)
 }
 
+#[tactic(auto, unfolding(crate::specs::Stages::decode))]
 pub fn decode(s: Stage) -> Decoded
     ensures { result ≡ decode s }
 {

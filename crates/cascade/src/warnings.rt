@@ -26,6 +26,7 @@ fn modifier_cause(c: Combiner) -> bool
     unknown_modifier(c.arg1) | (unknown_modifier(c.arg2) | third)
 }
 
+#[tactic(auto, unfolding(crate::specs::Warnings::applies_colour))]
 fn applies_colour(s: Stage) -> bool
     ensures { result ≡ applies_colour s }
 {
@@ -33,6 +34,7 @@ fn applies_colour(s: Stage) -> bool
     !is_bump(s) & !falls_back(textured(s), c)
 }
 
+#[tactic(auto, unfolding(crate::specs::Warnings::applies_alpha))]
 fn applies_alpha(s: Stage) -> bool
     ensures { result ≡ applies_alpha s }
 {
@@ -40,6 +42,7 @@ fn applies_alpha(s: Stage) -> bool
     !is_bump(s) & (alpha_written(s) & !falls_back(textured(s), a))
 }
 
+#[tactic(auto, using(crate::proofs::Guards::missing), unfolding(crate::specs::Walks::warns))]
 pub(crate) fn warns_op(s: Stage) -> bool
     ensures { result ≡ warns op_cause s }
 {
@@ -75,6 +78,7 @@ fn causes_of(c: Combiner) -> Causes
 }
 
 // A cause that a combiner gives counts where the stage applies that combiner.
+#[tactic(auto, unfolding(crate::specs::Walks::warns))]
 pub(crate) fn warned(s: Stage) -> Causes
     ensures { (result.op ≡ warns op_cause s) × ((result.selector ≡ warns selector_cause s) × (result.modifier ≡ warns modifier_cause s)) }
 {
