@@ -5,7 +5,7 @@ ghost use Rattle.operations.specs.Forms.{form_of};
 use combiners::Op;
 
 // The words before argument 1. Those that name argument 0 have its text in them. As in Microsoft's names, the inverse of a value is one minus the value.
-#[derive(Drop)]
+#[derive(Clone, Copy)]
 pub enum Opening {
     Bracket,
     Saturate,
@@ -19,7 +19,7 @@ pub enum Opening {
 }
 
 // The words between argument 1 and argument 2. Those that name argument 0 or 1 repeat its text.
-#[derive(Drop)]
+#[derive(Clone, Copy)]
 pub enum Joining {
     Times,
     Plus,
@@ -36,7 +36,7 @@ pub enum Joining {
 }
 
 // The words behind argument 2. Those that name argument 1 repeat its text.
-#[derive(Drop)]
+#[derive(Clone, Copy)]
 pub enum Ending {
     Bracket,
     MinusHalf,
@@ -51,7 +51,7 @@ pub enum Ending {
 }
 
 // Argument 1 or 2 alone, or both with words around them.
-#[derive(Drop)]
+#[derive(Clone, Copy)]
 pub enum Form {
     Arg1,
     Arg2,
