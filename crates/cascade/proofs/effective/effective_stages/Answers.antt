@@ -4,13 +4,9 @@ use Rattle.values.proofs.Mapped.{first_mapped, all_mapped, next_mapped}
 use Rattle.cascade.specs.Effective.{narrow_stage, effective_stages}
 use Rattle.cascade.proofs.effective.effective_stages.Goals as goal
 
-pub returns-then-k : goal.returns-then-k
-unfolding effective_stages
-returns-then-k c = rw c.if-k.true
-
 pub loop-i-init : goal.loop-i-init
 unfolding first_mapped
-loop-i-init c = let eight : length c.args.k.stages ≡ 8 = search rules in record { within = omega arith; eight = eight; narrowed = refl; narrow = c.if-k.false }
+loop-i-init c = let eight : length c.args.k.stages ≡ 8 = search rules in record { within = omega arith; eight = eight; narrowed = refl; narrow = cc }
 
 pub loop-i-preserved : goal.loop-i-preserved
 loop-i-preserved c =
