@@ -40,7 +40,7 @@ fn narrow_stage(s: Stage) -> Stage
     }
 }
 
-#[tactic(auto, unfolding(crate::specs::Effective::effective_stages))]
+#[tactic(auto, unfolding(crate::specs::Effective::effective_stages, values::proofs::Mapped::first_mapped))]
 fn effective_stages(k: Key) -> [Stage; 8]
     ensures { result ≡ effective_stages k }
 {

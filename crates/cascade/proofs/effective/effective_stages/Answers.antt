@@ -1,12 +1,8 @@
 -- A key of kind 6 keeps its stages; in another the loop narrows one stage more, and at its end all.
-use Rattle.std.proofs.Common.{arith, rules, ◌≡◌, ◌+◌, length, set, refl, ◌∙◌}
+use Rattle.std.proofs.Common.{arith, ◌≡◌, ◌+◌, set, ◌∙◌}
 use Rattle.values.proofs.Mapped.{first_mapped, all_mapped, next_mapped}
 use Rattle.cascade.specs.Effective.{narrow_stage, effective_stages}
 use Rattle.cascade.proofs.effective.effective_stages.Goals as goal
-
-pub loop-i-init : goal.loop-i-init
-unfolding first_mapped
-loop-i-init c = let eight : length c.args.k.stages ≡ 8 = search rules in record { within = omega arith; eight = eight; narrowed = refl; narrow = cc }
 
 pub loop-i-preserved : goal.loop-i-preserved
 loop-i-preserved c =
