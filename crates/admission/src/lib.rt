@@ -20,7 +20,7 @@ const UNUSED_STAGE_FLAG: u8 = 4;
 const UNUSED_VARIANT_FLAG: u8 = 64;
 
 // Where a pass over an entry's body stands: how many bytes were taken, the length byte, and 1 once a byte was wrong.
-#[derive(Drop)]
+#[derive(Clone, Copy)]
 pub struct Pass {
     pub taken: u8,
     pub length: u8,
@@ -32,7 +32,7 @@ pub fn stage_flags_bad(key: Key) -> bool
 {
     let mut i = 0;
     while i < STAGES {
-        let s = key.stages[i];
+        let s = &key.stages[i];
         if UNUSED_STAGE_FLAG <= s.flags {
             return true;
         }

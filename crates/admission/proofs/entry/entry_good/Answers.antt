@@ -1,0 +1,59 @@
+-- Each step judges the byte where the state stands: no byte so far was wrong and those to come are right exactly where the entry is good.
+use Rattle.std.proofs.Common.{arith, rules, ◌≡◌, ℕ, ◌+◌, ◌<◌, ◌≤◌, Bool, true, false, cond, ◌&&◌, eqb, List, length, get_or, drop, sym, refl, ap, ◌∙◌, mod-eq_of_lt, add-one, drop_of_length-le, drop-cons}
+use Rattle.values.specs.declared.Entry.{Entry}
+use Rattle.values.specs.Entries.{entry_good}
+use Rattle.admission.specs.Pass.{right, started, pass_stepped, possible_in}
+use Rattle.admission.specs.declared.Pass.{Pass}
+use Rattle.admission.proofs.Passes.{and_assoc, step_on, bytes_good}
+use Rattle.admission.proofs.entry.entry_good.Invariants.{good_with}
+use Rattle.admission.proofs.entry.entry_good.Goals as goal
+
+abbrev cleared : Pass → Pass
+cleared p = record { taken = p.taken; length = p.length; wrong = 0 }
+
+-- a step from a state without a wrong byte leaves it possible exactly where its byte is right
+judged : (b : Bool) → eqb (cond b 0 1) 0 ≡ b
+judged true = refl
+judged false = refl
+
+module _ (e : Entry) where
+  begun : (p q : Pass) → p ≡ pass_stepped q e.len → q ≡ started → length e.name ≡ 32 → good_with (possible_in p) p e.name ≡ entry_good e
+  unfolding pass_stepped right
+  begun p q f g h = rw (f, g, judged) (bytes_good e.len e.name h)
+
+one_more : (p : Pass) (c : ℕ) → p.taken < 255 → (pass_stepped p c).taken ≡ p.taken + 1
+unfolding pass_stepped
+one_more p c h = mod-eq_of_lt (omega arith)
+
+-- a byte more is judged; the last byte was judged
+judged_on : (good : Bool) (p q : Pass) (l : List ℕ) (i : ℕ) → q ≡ pass_stepped (cleared p) (get_or l i 0) → 1 ≤ p.taken → p.taken < 255 → i < length l →
+    good_with (good && possible_in q) q (drop (i + 1) l) ≡ good_with good p (drop i l)
+judged_on good p q l i e h k m =
+    rw (e, step_on p.length p.taken 0 (get_or l i 0) h k, judged, add-one, drop-cons l i 0 m) (sym (and_assoc good _ _))
+
+judged_all : (good : Bool) (p : Pass) (l : List ℕ) (i : ℕ) → length l ≤ i → good ≡ good_with good p (drop i l)
+judged_all true p l i h = rw (drop_of_length-le l h)
+judged_all false p l i h = refl
+
+pub loop-i-init : goal.loop-i-init
+loop-i-init c =
+    let n : c.step-pass.result.taken ≡ 1 = rw (c.step-pass.ensures, c.start.ensures) (one_more started _ (omega arith)) in
+    (omega arith, search rules, n, refl)
+
+pub loop-i-preserved : goal.loop-i-preserved
+loop-i-preserved c =
+    let p = c.loop-i.pass in
+    let name = c.args.entry.name in
+    let behind : 1 ≤ p.taken = omega (arith, c.loop-i.invariant.2) in
+    let below : p.taken < 255 = omega (arith, c.loop-i.invariant.2) in
+    let more = one_more (cleared p) (get_or name c.loop-i.i 0) below in
+    let n = ap (λ (q : Pass). q.taken) c.step-pass-in-loop-i.ensures ∙ more ∙ ap (λ (t : ℕ). t + 1) c.loop-i.invariant.2 in
+    let on = judged_on c.loop-i.good p _ name c.loop-i.i c.step-pass-in-loop-i.ensures behind below (omega (arith, c.loop-i.invariant.1)) in
+    (omega arith, c.loop-i.invariant.1, n, rw c.possible-good-in-loop-i.ensures (on ∙ c.loop-i.invariant.3))
+
+pub returns : goal.returns
+returns c =
+    let e = c.args.entry in
+    let all = judged_all c.loop-i.good c.loop-i.pass e.name c.loop-i.i (omega (arith, c.loop-i.invariant.1)) in
+    let first = ap (λ (g : Bool). good_with g c.step-pass.result e.name) c.possible-good.ensures in
+    all ∙ c.loop-i.invariant.3 ∙ first ∙ begun e _ _ c.step-pass.ensures c.start.ensures c.loop-i.invariant.1
