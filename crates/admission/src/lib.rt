@@ -32,7 +32,7 @@ pub fn stage_flags_bad(key: Key) -> bool
 {
     let mut i = 0;
     while i < STAGES {
-        let s = &key.stages[i];
+        let s = key.stages[i];
         if UNUSED_STAGE_FLAG <= s.flags {
             return true;
         }
