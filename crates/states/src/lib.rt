@@ -86,6 +86,7 @@ fn takes(state: u8, value: u32) -> bool
 }
 
 // Whether a write is accepted: its stage is looked at first, then its type, then its value.
+#[tactic(auto, unfolding(crate::specs::Writes::checked_write, crate::specs::Writes::state_write_number))]
 pub fn check(write: StateWrite) -> Checked
     ensures answer { result ≡ checked_write write }
     ensures number { checked_number result ≡ state_write_number write }
@@ -126,6 +127,7 @@ fn default_stage(colour_op: u8, alpha_op: u8) -> Stage
 }
 
 // The key before any write.
+#[tactic(auto, unfolding(crate::specs::States::defaults))]
 pub fn defaults() -> Key
     ensures { result ≡ defaults }
 {
@@ -151,6 +153,7 @@ fn result_arg_of(flags: u8) -> u8
     }
 }
 
+#[tactic(auto, unfolding(crate::specs::States::stage_state))]
 fn state_of(stage: Stage, state: u8) -> u8
     ensures { result ≡ stage_state state stage }
 {
@@ -247,6 +250,7 @@ fn with_result(value: u8, flags: u8) -> u8
     flags % 2 + (2 * ((value == D3DTA_TEMP) as u8) + 4 * (flags / 4))
 }
 
+#[tactic(auto, unfolding(crate::specs::States::set_stage))]
 pub fn set_stage(stage: Stage, state: u8, value: u8) -> Stage
     ensures { result ≡ set_stage state value stage }
 {
