@@ -14,7 +14,7 @@
  *     if (yuzuknoll_emit(&key, &variant, &entry, text, sizeof text, &result) == YUZUKNOLL_ACCEPTED)
  *         fwrite(text, 1, result.length, stdout);
  *
- * The command `rt staticlib yuzuknoll` makes the library, target/staticlib/libyuzuknoll.a, for x86-64 Linux. The command
+ * The command `tools/archive` makes the library, target/staticlib/libyuzuknoll.a, for x86-64 Linux. The command
  * `ports/build` makes it for 64-bit Arm Linux, Macs and WebAssembly too. These give the same bytes on the calls that
  * ports/test makes; the code for Macs was run, but not on a Mac. docs/PORTS.md says what was run where.
  *

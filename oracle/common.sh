@@ -30,7 +30,7 @@ need_archive() {
     YUZUKNOLL_LIB=${YUZUKNOLL_LIB:-${here%/*}/target/staticlib/libyuzuknoll.a}
     export YUZUKNOLL_LIB
     [ -f "$YUZUKNOLL_LIB" ] && return
-    (cd "$here/.." && rt staticlib yuzuknoll) >"$log" 2>&1 && return
+    "$here/../tools/archive" >"$log" 2>&1 && return
     cat "$log"
     fail "no archive"
 }

@@ -1,4 +1,4 @@
-//! Links the archive that `rt staticlib yuzuknoll` makes: the one that `YUZUKNOLL_LIB` names, or else the repository's.
+//! Links the archive that `tools/archive` makes: the one that `YUZUKNOLL_LIB` names, or else the repository's.
 
 use std::{env, fs, path::PathBuf};
 
@@ -9,7 +9,7 @@ fn main() {
     let path = env::var_os("YUZUKNOLL_LIB").map_or_else(|| DEFAULT.into(), PathBuf::from);
     let path = fs::canonicalize(&path).unwrap_or_else(|e| {
         panic!(
-            "no archive at {}: {e}; make it by `rt staticlib yuzuknoll`",
+            "no archive at {}: {e}; make it by `tools/archive`",
             path.display()
         )
     });

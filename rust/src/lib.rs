@@ -22,7 +22,7 @@
 //! Keys, variants and entries can be stored as [`Record`]s. A [`Session`] takes a sequence of records and writes a text for each emit record. A program
 //! that has a list of texture stage state writes in place of a key hands them to a session as [`StateWrite`]s.
 //!
-//! The functions are those of the archive that `rt staticlib yuzuknoll` makes (include/yuzuknoll.h). On a [`Refusal`] nothing is modified.
+//! The functions are those of the archive that `tools/archive` makes (include/yuzuknoll.h). On a [`Refusal`] nothing is modified.
 
 #![deny(
     clippy::expect_used,
