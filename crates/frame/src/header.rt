@@ -15,7 +15,6 @@ fn put_varyings(out: &mut [u8], at: usize, flat: bool) -> usize
         b"#include <metal_stdlib>
 using namespace metal;
 
-#[derive(Drop)]
 struct Varyings {
     float4 position [[position, invariant]];
     float4 position1;

@@ -1,0 +1,12 @@
+-- Projected, the displaced coordinate is the divided one, declared in the line before; else the interpolated one.
+use Rattle.text.proofs.Laws.{texts}
+use Rattle.shader.specs.Lookups.{displacement_text}
+use Rattle.bumps.proofs.put_displacement.Goals as goal
+
+pub returns-then-projected : goal.returns-then-projected
+unfolding displacement_text
+returns-then-projected c = search texts
+
+pub returns-else-projected : goal.returns-else-projected
+unfolding displacement_text
+returns-else-projected c = search texts
