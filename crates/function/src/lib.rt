@@ -20,7 +20,7 @@ use values::{Entry, Key, Variant};
 use variants::bits::{POINT_SPRITE, flag};
 
 // The place behind what has been written, and the lookups among it.
-#[derive(Drop)]
+#[derive(Clone, Copy)]
 pub struct Place {
     pub at: usize,
     pub lookups: u8,
