@@ -1,0 +1,56 @@
+-- A buffer as long as the longest text takes the text at once; for a shorter one the text is written aside, where it fits, and copied from there if it fits.
+use Rattle.std.proofs.Common.{arith, rules, ℕ, List, ◌≤◌, ◌<◌, ◌≡◌, length, length-take, refl}
+use native.Mathlib.Nat.{le_trans}
+use Rattle.text.specs.Text.{flat}
+use Rattle.text.proofs.Laws.{keeps}
+use Rattle.shader.specs.Whole.{whole_text}
+use Rattle.lengths.proofs.Longest.{whole_at_most}
+use Rattle.values.specs.declared.Key.{Key}
+use Rattle.values.specs.declared.Variant.{Variant}
+use Rattle.values.specs.declared.Entry.{Entry}
+use Rattle.values.specs.Entries.{name_of}
+use Rattle.emission.proofs.Answers.{placed, copied}
+use Rattle.emission.proofs.put_text.Goals as goal
+
+-- the stages and the name of a value have the lengths of their types
+short : (k : Key) (v : Variant) (e : Entry) → v.sample_mask < 256 → length k.stages ≡ 8 → e.len ≤ 32 → length (flat (whole_text k v e)) ≤ 6657
+short k v e mask stages len =
+    let name : length (name_of e) ≤ 32 = simp length-take (omega (arith, len)) in
+    le_trans (whole_at_most k v e mask (omega (arith, stages))) (omega arith)
+
+pub returns-then-out-ge-MOST_TEXT : goal.returns-then-out-ge-MOST_TEXT
+returns-then-out-ge-MOST_TEXT c =
+    let k = c.args.k in
+    let v = c.args.v in
+    let e = c.args.e in
+    let mask : v.sample_mask < 256 = search rules in
+    let most = short k v e mask (omega arith) c.requires.1 in
+    let fits : length (flat (whole_text k v e)) ≤ length c.args.out.now = le_trans most c.if-out-ge-MOST_TEXT.true in
+    let l = placed k v e c.put_whole.ensures.wrote fits in
+    record { place = l.0; fits = λ f. l.1; over = λ o. absurd (omega (arith, fits, o)); lookups = c.put_whole.ensures.lookups_value }
+
+pub returns-then-w-out : goal.returns-then-w-out
+returns-then-w-out c =
+    let k = c.args.k in
+    let v = c.args.v in
+    let e = c.args.e in
+    let text : List ℕ = flat (whole_text k v e) in
+    let mask : v.sample_mask < 256 = search rules in
+    let most = short k v e mask (omega arith) c.requires.1 in
+    let room : length c.put_whole-w.new.out ≡ 6657 = keeps c.put_whole-w.ensures.wrote in
+    let aside = placed k v e c.put_whole-w.ensures.wrote (omega (arith, most, room)) in
+    let fits : length text ≤ length c.args.out.now = omega (arith, aside.0, c.if-w-out.true) in
+    let l = copied text c.args.out.now _ _ aside.0 aside.1 fits c.put.ensures.written in
+    record { place = aside.0; fits = λ f. l; over = λ o. absurd (omega (arith, fits, o)); lookups = c.put_whole-w.ensures.lookups_value }
+
+pub returns-else-w-out : goal.returns-else-w-out
+returns-else-w-out c =
+    let k = c.args.k in
+    let v = c.args.v in
+    let e = c.args.e in
+    let mask : v.sample_mask < 256 = search rules in
+    let most = short k v e mask (omega arith) c.requires.1 in
+    let room : length c.put_whole-w.new.out ≡ 6657 = keeps c.put_whole-w.ensures.wrote in
+    let aside = placed k v e c.put_whole-w.ensures.wrote (omega (arith, most, room)) in
+    let over : length c.args.out.now < length (flat (whole_text k v e)) = omega (arith, aside.0, c.if-w-out.false) in
+    record { place = aside.0; fits = λ f. absurd (omega (arith, over, f)); over = λ o. refl; lookups = c.put_whole-w.ensures.lookups_value }
