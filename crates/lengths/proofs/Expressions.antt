@@ -11,19 +11,16 @@ use Rattle.text.specs.Text.{Text, none, bytes}
 use Rattle.text.specs.Format.{Piece, words, slot, cut, Slot, ◌≔◌, same, find, fill}
 use Rattle.text.proofs.Size.{most}
 use Rattle.text.proofs.Slots.{mentions}
-use Rattle.combiners.specs.Codes as codes
 use Rattle.combiners.specs.Codes.{selector, texture, temp, dot_product3}
 use Rattle.combiners.specs.Arguments.{texel_name, constant_row, source_of, source_text, replicated, arg_of, arg_text}
 use Rattle.combiners.specs.Combiners.{op_codes, look, op_of, template, op_text, expression_text, keeps_first, keeps_second, three_operands, reads_own_texel}
 use Rattle.combiners.specs.declared.Op.{Op}
 use Rattle.combiners.specs.declared.Op.TheVariants.{Other}
-use Rattle.combiners.specs.declared.Arg.{Arg}
 use Rattle.combiners.specs.declared.Expression.{Expression}
 use Rattle.cascade.specs.Keys.{selects, third}
 use Rattle.cascade.specs.Reading.{keeps}
 use Rattle.cascade.specs.Stages.{current_arg, fallback, arg0_of, combined}
-use Rattle.cascade.specs.declared.Alpha.TheVariants.{Kept}
-use Rattle.shader.proofs.Names.Truth.{and_fst, and_snd, cond_cases, below, below_at}
+use Rattle.shader.proofs.Names.Truth.{and_fst, and_snd, cond_cases, below_at}
 use Rattle.shader.proofs.Names.Operations.{mentions_kept_lem}
 use Rattle.values.specs.declared.Combiner.{Combiner}
 use Rattle.lengths.proofs.Sums.{flag, or_le, and_or_le, and_le}

@@ -3,13 +3,11 @@ use Prim.Native.Nat.{ℕ, ◌+◌, ◌*◌, ◌≤◌}
 use mathlib.Core.Bool.{Bool, true, false, not, ◌&&◌, ◌||◌, cond}
 use native.Mathlib.Omega.{arith}
 use native.Mathlib.Nat.{le_trans}
-use lib.Dec.{T, eqb, lit≤}
-use Rattle.text.specs.Text.{Text}
+use lib.Dec.{eqb, lit≤}
 use Rattle.text.proofs.Size.{most}
 use Rattle.combiners.specs.Codes as codes
 use Rattle.combiners.specs.Codes.{texture, temp, disable, dot_product3}
 use Rattle.combiners.specs.Combiners.{expression_text}
-use Rattle.combiners.specs.declared.Op.{Op}
 use Rattle.combiners.specs.declared.Expression.{Expression}
 use Rattle.cascade.specs.Keys.{textured, to_temp, falls_back, is_bump_op, alpha_from_colour}
 use Rattle.cascade.specs.Reading.{keeps, reads_temp_by, reads_texel_by, alpha_written, reads_temp, reads_texel}

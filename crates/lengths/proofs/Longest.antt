@@ -1,7 +1,7 @@
 -- No text is longer than its kind's greatest length, and an entry of n bytes adds n - 1 to the text with an entry of one byte.
 use Prim.Native.Nat.{ℕ, suc, ◌+◌, ◌-◌, ◌*◌, ◌≤◌, ◌<◌, max}
 use mathlib.Core.Bool.{Bool, true, false, cond}
-use mathlib.Core.Path.{◌≡◌, refl, subst, ap}
+use mathlib.Core.Path.{◌≡◌, refl, subst}
 use mathlib.Core.List.{List, [], ◌∷◌, map}
 use native.Mathlib.Omega.{arith}
 use native.Mathlib.Nat.{le_trans}
@@ -23,7 +23,6 @@ use Rattle.shader.specs.declared.Before.TheVariants.{Ordinary}
 use Rattle.shader.proofs.Names.Truth.{and_fst, and_snd, cond_cases, below_at}
 use Rattle.shader.proofs.Names.Rules.{active_short}
 use Rattle.values.specs.Entries.{name_of, is_identifier, entry_good}
-use Rattle.values.specs.declared.Answer.TheVariants.{Text}
 use Rattle.values.specs.declared.Stage.{Stage}
 use Rattle.values.specs.declared.Key.{Key}
 use Rattle.values.specs.declared.Variant.{Variant}
@@ -31,7 +30,6 @@ use Rattle.values.specs.declared.Entry.{Entry}
 use Rattle.lengths.specs.Bounds.{greatest_length, Typed, Permitted}
 use Rattle.lengths.proofs.Sums.{flag, cond_le}
 use Rattle.lengths.proofs.Expressions.{budget}
-use Rattle.lengths.proofs.Lines.{Within}
 use Rattle.lengths.proofs.Lookups.{added, gain}
 use Rattle.lengths.proofs.Stages.{AllWithin, weight, stages_le}
 

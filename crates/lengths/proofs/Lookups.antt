@@ -5,11 +5,10 @@ use mathlib.Core.Bool.{Bool, true, false, cond}
 use native.Mathlib.Omega.{arith}
 use native.Mathlib.Nat.{le_trans}
 use lib.Dec.{leb, leb→le, lit≤}
-use Rattle.text.specs.Text.{Text, size, decimal_of, decimal}
+use Rattle.text.specs.Text.{size, decimal_of}
 use Rattle.text.proofs.Size.{most, size_most}
 use Rattle.combiners.specs.Codes.{bit}
 use Rattle.combiners.specs.Arguments.{texel_name}
-use Rattle.cascade.specs.Keys.{bump}
 use Rattle.shader.specs.Lookups.{lookup_of, texture_type_of, type_text, texture_name, sampler_name, coordinate_text, lod_row, bump_row, level_text, quotient_text, uv_text, half_texel_text, gather_text, depth_text, compare_text, plain_text, texel_line, projected_line, lookup_text, divided_line, offset_text, moved_text, displaced_line, displacement_text, luminance_line, sample_text}
 use Rattle.shader.specs.Whole.{texture_parameter, sampler_parameter}
 use Rattle.shader.specs.declared.Coordinate.TheVariants.{Interpolated, Displaced}
