@@ -13,7 +13,7 @@ ghost use Rattle.wire.specs.Bodies.{body_length, key_kind, kind_byte, record_len
 
 use values::Refusal;
 
-#[derive(Drop)]
+#[derive(Clone, Copy)]
 pub enum Kind {
     Key,
     Variant,
@@ -24,7 +24,7 @@ pub enum Kind {
 }
 
 // A record by value. It is the value of its kind, and of both kinds of key its key; the others are looked at nowhere, and blank in a record that was read.
-#[derive(Drop)]
+#[derive(Clone, Copy)]
 pub struct Record {
     pub kind: Kind,
     pub key: Key,
@@ -33,7 +33,7 @@ pub struct Record {
     pub write: StateWrite,
 }
 
-#[derive(Drop)]
+#[derive(Clone, Copy)]
 pub enum ReadAnswer {
     // How many bytes the record took.
     Took(usize),
@@ -41,13 +41,13 @@ pub enum ReadAnswer {
 }
 
 // The record is blank where it is refused.
-#[derive(Drop)]
+#[derive(Clone, Copy)]
 pub struct Reading {
     pub answer: ReadAnswer,
     pub found: Record,
 }
 
-#[derive(Drop)]
+#[derive(Clone, Copy)]
 pub enum WriteAnswer {
     // How many bytes were written.
     Wrote(usize),
