@@ -1,12 +1,10 @@
 -- What the writer answers, by cases: a refusal with its number, or the length of a record that is free of causes and fits.
-use mathlib.Core.Path.{◌≡◌, refl, sym, ◌∙◌}
+use mathlib.Core.Path.{◌≡◌, refl, sym, subst, ◌∙◌}
 use mathlib.Core.Bool.{Bool, true, false, cond}
-use mathlib.Core.List.{[], ◌∷◌}
+use mathlib.Core.Logic.{◌⊎◌, inl, inr}
 use Prim.Native.Nat.{ℕ, ◌≤◌}
 use native.Mathlib.Omega.{arith}
 use borrow.Author.Tests.{le-ltb, ltb-false}
-use denote.Enum.Declared.{tag_of}
-use types.Run.{OneOf, miss}
 use lib.Dec.{ltb}
 use Rattle.values.specs.Refusals.{number_of}
 use Rattle.values.specs.Flags.{stage_flags_bad, variant_flags_bad}
@@ -20,7 +18,6 @@ use Rattle.wire.specs.Bodies.{record_length}
 use Rattle.wire.specs.Writing.{write_if, write_as, write_into, write_answer, write_number, value_number, written_number}
 use Rattle.wire.specs.declared.Kind.{Kind}
 use Rattle.wire.specs.declared.Kind.TheVariants as kind
-use Rattle.wire.specs.contracts.Kind.{the_type}
 use Rattle.wire.specs.declared.Record.{Record}
 use Rattle.wire.specs.declared.WriteAnswer.{WriteAnswer}
 use Rattle.wire.specs.declared.WriteAnswer.TheVariants.{Wrote, Refused}
@@ -43,15 +40,11 @@ fits_writes r room f h = sym (free_writes r.kind r (write_into room r.kind) refl
 
 -- a key of either kind, with a cause and without one
 abbrev pub AnyKey : Kind → Type 0
-AnyKey k = OneOf (0 ∷ 5 ∷ []) (tag_of the_type k)
+AnyKey k = (k ≡ kind.Key) ⊎ (k ≡ kind.WideKey)
 
 pub any_key : (P : Kind → Type 0) → P kind.Key → P kind.WideKey → (k : Kind) → AnyKey k → P k
-any_key P p q kind.Key e = p
-any_key P p q kind.Variant e = absurd (miss (0 ∷ 5 ∷ []) 1 tt e)
-any_key P p q kind.Entry e = absurd (miss (0 ∷ 5 ∷ []) 2 tt e)
-any_key P p q kind.Emit e = absurd (miss (0 ∷ 5 ∷ []) 3 tt e)
-any_key P p q kind.State e = absurd (miss (0 ∷ 5 ∷ []) 4 tt e)
-any_key P p q kind.WideKey e = q
+any_key P p q k (inl e) = subst P (sym e) p
+any_key P p q k (inr e) = subst P (sym e) q
 
 module _ (r : Record) (a : WriteAnswer) (e : AnyKey r.kind) where
   pub key_refused : stage_flags_bad r.key.stages ≡ true → Refused StageFlags ≡ write_as r.kind r a

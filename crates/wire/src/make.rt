@@ -22,6 +22,7 @@ pub(crate) fn blank_stage() -> Stage
 }
 
 // A record of a kind with no value in it.
+#[tactic(auto, unfolding(crate::specs::Values::blank_key, crate::specs::Values::blank_variant, crate::specs::Values::blank_entry))]
 pub fn blank_record(kind: Kind) -> Record
     ensures { result ≡ blank_record kind }
 {

@@ -131,6 +131,7 @@ fn put_state(out: &mut [u8], write: StateWrite) -> usize
     put(out, 0, &all)
 }
 
+#[tactic(auto, unfolding(crate::specs::Bodies::body_bytes))]
 fn put_record(out: &mut [u8], made: Record) -> usize
     ensures { Wrote out.old 0 out.new result (raw (record_bytes made)) }
 {
