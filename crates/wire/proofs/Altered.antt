@@ -6,7 +6,7 @@ use mathlib.Core.List.{List, [], ◌∷◌, ◌++◌, append_assoc}
 use native.Mathlib.Omega.{arith}
 use borrow.Author.Tests.{ltb-false}
 use lib.Dec.{ltb}
-use lib.ListN.{length, take, drop, get_or, set, length-append, take-append-drop}
+use lib.ListN.{length, drop, get_or, set, length-append, take-append-drop}
 use lib.Seq.{sets, sets-eq, drop_at, drop-drop, set-get_or, take_at}
 use Rattle.text.specs.Text.{raw}
 use Rattle.text.specs.Buffer.{Wrote}
