@@ -2,14 +2,16 @@
 #![tactic(auto)]
 
 ghost use Rattle.std.specs.Prelude.{◌≤◌, length};
+ghost use Rattle.std.specs.Io.{ReadsAtMost};
 
 use emission::front;
-use libc::{EINTR, STDERR_FILENO, STDIN_FILENO, STDOUT_FILENO};
 use printout::lines::{LINE_LENGTH, put_refused_line};
 use printout::{INPUT_LENGTH, TEXT_LENGTH, begin, step};
+use std::io;
+use std::io::{ErrorKind, Read, Write};
 use values::Refusal;
 
-#[derive(Drop)]
+#[derive(Clone, Copy)]
 enum End {
     // The input ended.
     Whole,
@@ -20,7 +22,7 @@ enum End {
 }
 
 // How reading ended, and how many bytes came.
-#[derive(Drop)]
+#[derive(Clone, Copy)]
 struct Input {
     end: End,
     length: usize,
@@ -29,58 +31,56 @@ struct Input {
 // How often an interrupted read is tried again. Nothing guarantees that interrupts stop, and a proved loop has to end.
 const MOST_TRIES: usize = 1000000;
 
-// What a read of standard input into the front of a buffer answers. A read that a signal interrupted is tried again.
-fn read_some(buf: &mut [u8]) -> isize {
-    let mut tries = 0;
-    while tries < MOST_TRIES {
-        let got = libc::read(STDIN_FILENO, buf);
-        if 0 <= got {
-            return got;
+// What a read into the front of a buffer answers. A read that a signal interrupted is tried again.
+fn read_some<R: Read>(from: &mut R, buf: &mut [u8]) -> io::Result<usize>
+    ensures { ReadsAtMost result buf.new }
+{
+    for _ in 0..MOST_TRIES {
+        match from.read(buf) {
+            Ok(n) => return Ok(n),
+            Err(e) => {
+                if e.kind() != ErrorKind::Interrupted {
+                    return Err(e);
+                }
+            }
         }
-        if os::errno() != EINTR {
-            return got;
-        }
-        tries += 1;
     }
-    -1
+    Err(io::Error::from(ErrorKind::Interrupted))
 }
 
 // Whether the input ends here.
-fn end_here() -> End {
+fn end_here<R: Read>(from: &mut R) -> End {
     let mut one = [0u8; 1];
-    let got = read_some(&mut one);
-    if got < 0 {
-        return End::Failed;
+    match read_some(from, &mut one) {
+        Ok(0) => End::Whole,
+        Ok(_) => End::TooLong,
+        Err(_) => End::Failed,
     }
-    if got == 0 {
-        return End::Whole;
-    }
-    End::TooLong
 }
 
-// Standard input to its end, or until the buffer is full. One read may bring fewer bytes than there are.
-fn read_input(input: &mut [u8]) -> Input
+// The input to its end, or until the buffer is full. One read may bring fewer bytes than there are.
+fn read_input<R: Read>(from: &mut R, input: &mut [u8]) -> Input
     ensures { result.length ≤ length input.new }
 {
     let mut n = 0;
     while n < input.len() {
-        let got = read_some(&mut input[n..]);
-        if got < 0 {
-            return Input {
-                end: End::Failed,
-                length: n,
-            };
+        match read_some(from, &mut input[n..]) {
+            Ok(0) => {
+                return Input {
+                    end: End::Whole,
+                    length: n,
+                };
+            }
+            Ok(more) => n += more,
+            Err(_) => {
+                return Input {
+                    end: End::Failed,
+                    length: n,
+                };
+            }
         }
-        let more = io::count(got, &input[n..]);
-        if more == 0 {
-            return Input {
-                end: End::Whole,
-                length: n,
-            };
-        }
-        n += more;
     }
-    let end = end_here();
+    let end = end_here(from);
     Input {
         end: end,
         length: n,
@@ -88,25 +88,36 @@ fn read_input(input: &mut [u8]) -> Input
 }
 
 // Whether the front of a buffer was written, all of it.
-fn write_front(buf: &mut [u8], len: usize) -> bool {
+fn write_front<W: Write>(to: &mut W, buf: &mut [u8], len: usize) -> bool {
     let written = front(buf, len);
-    io::write_all(STDOUT_FILENO, &written[..])
+    to.write_all(&written[..]).is_ok()
 }
 
 // Whether a line, and then the text behind it, could be written.
-fn write_printed(line: &mut [u8], n: usize, text: &mut [u8], m: usize) -> bool {
-    if !write_front(line, n) {
+fn write_printed<W: Write>(
+    to: &mut W,
+    line: &mut [u8],
+    n: usize,
+    text: &mut [u8],
+    m: usize,
+) -> bool {
+    if !write_front(to, line, n) {
         return false;
     }
-    write_front(text, m)
+    write_front(to, text, m)
 }
 
 // Whether what is printed for the input could be written. The first write that fails is the last.
-fn print_output(input: &[u8], line: &mut [u8; LINE_LENGTH], text: &mut [u8; TEXT_LENGTH]) -> bool {
+fn print_output<W: Write>(
+    to: &mut W,
+    input: &[u8],
+    line: &mut [u8; LINE_LENGTH],
+    text: &mut [u8; TEXT_LENGTH],
+) -> bool {
     let mut session = begin();
     loop {
         let printed = step(session, input, line, text);
-        if !write_printed(line, printed.line, text, printed.text) {
+        if !write_printed(to, line, printed.line, text, printed.text) {
             return false;
         }
         if !printed.more {
@@ -117,36 +128,43 @@ fn print_output(input: &[u8], line: &mut [u8; LINE_LENGTH], text: &mut [u8; TEXT
     }
 }
 
-fn print_too_long(line: &mut [u8; LINE_LENGTH]) -> bool {
+fn print_too_long<W: Write>(to: &mut W, line: &mut [u8; LINE_LENGTH]) -> bool {
     let len = put_refused_line(line, Refusal::InputTooLong, INPUT_LENGTH);
-    write_front(line, len)
+    write_front(to, line, len)
 }
 
-fn tell(message: &[u8]) {
-    io::write_all(STDERR_FILENO, message);
+fn tell<W: Write>(to: &mut W, message: &[u8]) {
+    let _ = to.write_all(message);
 }
 
-fn tell_unless(written: bool) {
+fn tell_unless<W: Write>(to: &mut W, written: bool) {
     if !written {
-        tell(b"standard output cannot be written\n");
+        tell(to, b"standard output cannot be written\n");
     }
 }
 
 // Standard input into the first buffer, and what is printed for it.
-fn run(input: &mut [u8], line: &mut [u8; LINE_LENGTH], text: &mut [u8; TEXT_LENGTH]) {
-    let got = read_input(input);
+fn run(
+    rt: &HostRuntime,
+    input: &mut [u8],
+    line: &mut [u8; LINE_LENGTH],
+    text: &mut [u8; TEXT_LENGTH],
+) {
+    let mut from = rt.stdin();
+    let mut to = rt.stdout();
+    let mut errors = rt.stderr();
+    let got = read_input(&mut from, input);
     let n = got.length;
-    let end = got.end;
-    match end {
-        End::Whole => tell_unless(print_output(&input[..n], line, text)),
-        End::TooLong => tell_unless(print_too_long(line)),
-        End::Failed => tell(b"standard input cannot be read\n"),
+    match got.end {
+        End::Whole => tell_unless(&mut errors, print_output(&mut to, &input[..n], line, text)),
+        End::TooLong => tell_unless(&mut errors, print_too_long(&mut to, line)),
+        End::Failed => tell(&mut errors, b"standard input cannot be read\n"),
     }
 }
 
-fn main() {
+fn main(rt: HostRuntime) {
     let mut input = [0u8; INPUT_LENGTH];
     let mut text = [0u8; TEXT_LENGTH];
     let mut line = [0u8; LINE_LENGTH];
-    run(&mut input, &mut line, &mut text);
+    run(&rt, &mut input, &mut line, &mut text);
 }

@@ -4,7 +4,6 @@
 ghost use Rattle.std.specs.Prelude.{◌≡◌};
 ghost use Rattle.longest.specs.Lines.{longest_lines, Longest};
 
-use libc::{STDERR_FILENO, STDOUT_FILENO};
 use text::put;
 
 // The lines have 4, 118 and 40 digits, and a newline each.
@@ -23,10 +22,12 @@ fn put_lines(out: &mut [u8; LINES_LENGTH])
     put(out, b, b"0203000301000000fe00fe0000000000fe00ff1f\n");
 }
 
-fn main() {
+fn main(rt: HostRuntime) {
     let mut lines = [0u8; LINES_LENGTH];
     put_lines(&mut lines);
-    if !io::write_all(STDOUT_FILENO, &lines[..]) {
-        io::write_all(STDERR_FILENO, b"standard output cannot be written\n");
+    if rt.stdout().write_all(&lines).is_err() {
+        let _ = rt
+            .stderr()
+            .write_all(b"standard output cannot be written\n");
     }
 }

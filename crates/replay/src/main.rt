@@ -3,9 +3,10 @@
 
 ghost use Rattle.std.specs.Prelude.{◌+◌, ◌≤◌, ◌<◌, ◌≡◌, true, length};
 
-use libc::STDOUT_FILENO;
 use printout::lines::LINE_LENGTH;
 use printout::{TEXT_LENGTH, begin, step};
+use std::fs::File;
+use std::io::Read;
 
 // No input and no output of the list is longer.
 const BLOCK_LENGTH: usize = 16384;
@@ -37,7 +38,7 @@ fn stands(s: &[u8], len: usize, expected: &[u8], at: usize) -> bool
 }
 
 // Whether a line and a text stand at a place of the expected bytes, and the place behind them.
-#[derive(Drop)]
+#[derive(Clone, Copy)]
 struct Compared {
     same: bool,
     end: usize,
@@ -104,18 +105,33 @@ fn number_in(bytes: &[u8; 4]) -> usize {
 }
 
 // A block of the list, an input or an output, which stands behind its length in four bytes. It is not there where the list ends, or is cut short.
-#[derive(Drop)]
+#[derive(Clone, Copy)]
 struct Block {
     there: bool,
     ended: bool,
     length: usize,
 }
 
-fn read_block(fd: i32, block: &mut [u8]) -> Block
+// Reads until the buffer is full, the input ends or a read fails: how many bytes came.
+fn read_full<R: Read>(from: &mut R, buf: &mut [u8]) -> usize
+    ensures { result ≤ length buf.new }
+{
+    let mut n = 0;
+    while n < buf.len() {
+        match from.read(&mut buf[n..]) {
+            Ok(0) => return n,
+            Ok(more) => n += more,
+            Err(_) => return n,
+        }
+    }
+    n
+}
+
+fn read_block<R: Read>(from: &mut R, block: &mut [u8]) -> Block
     ensures { result.length ≤ length block.new }
 {
     let mut head = [0u8; 4];
-    let got = io::read_full(fd, &mut head);
+    let got = read_full(from, &mut head);
     let n = number_in(&head);
     if got < 4 {
         return Block {
@@ -131,7 +147,7 @@ fn read_block(fd: i32, block: &mut [u8]) -> Block
             length: 0,
         };
     }
-    let read = io::read_full(fd, &mut block[..n]);
+    let read = read_full(from, &mut block[..n]);
     Block {
         there: read == n,
         ended: false,
@@ -139,32 +155,25 @@ fn read_block(fd: i32, block: &mut [u8]) -> Block
     }
 }
 
-fn say(s: &[u8]) {
-    io::write_all(STDOUT_FILENO, s);
+// What standard output does not take is not printed.
+fn tell(rt: &impl Print, case: usize) {
+    let _ = println!(rt; "differs: case {case}");
 }
 
-fn tell(case: usize) {
-    say(b"differs: case ");
-    io::print_decimal(STDOUT_FILENO, case as u64);
-    say(b"\n");
-}
-
-fn report(cases: usize, differences: usize) {
-    io::print_decimal(STDOUT_FILENO, cases as u64);
-    say(b" cases, ");
-    io::print_decimal(STDOUT_FILENO, differences as u64);
-    say(b" differences\n");
+fn report(rt: &impl Print, cases: usize, differences: usize) {
+    let _ = println!(rt; "{cases} cases, {differences} differences");
 }
 
 // Whether there was a case, and how many differences it has, 0 or 1. A list that is cut short differs there.
-#[derive(Drop)]
+#[derive(Clone, Copy)]
 struct Case {
     there: bool,
     differences: usize,
 }
 
-fn replay_case(
-    fd: i32,
+fn replay_case<P: Print, R: Read>(
+    rt: &P,
+    from: &mut R,
     case: usize,
     input: &mut [u8],
     output: &mut [u8],
@@ -173,16 +182,16 @@ fn replay_case(
 ) -> Case
     ensures { result.differences ≤ 1 }
 {
-    let given = read_block(fd, input);
+    let given = read_block(from, input);
     if given.ended {
         return Case {
             there: false,
             differences: 0,
         };
     }
-    let expected = read_block(fd, output);
+    let expected = read_block(from, output);
     if !(given.there & expected.there) {
-        tell(case);
+        tell(rt, case);
         return Case {
             there: false,
             differences: 1,
@@ -191,7 +200,7 @@ fn replay_case(
     let n = given.length;
     let m = expected.length;
     if !same_output(&input[..n], &output[..m], line, text) {
-        tell(case);
+        tell(rt, case);
         return Case {
             there: true,
             differences: 1,
@@ -203,8 +212,9 @@ fn replay_case(
     }
 }
 
-fn replay(
-    fd: i32,
+fn replay<P: Print, R: Read>(
+    rt: &P,
+    from: &mut R,
     input: &mut [u8],
     output: &mut [u8],
     line: &mut [u8; LINE_LENGTH],
@@ -213,26 +223,33 @@ fn replay(
     let mut cases = 0;
     let mut differences = 0;
     while cases < MOST_CASES {
-        let case = replay_case(fd, cases, input, output, line, text);
+        let case = replay_case(rt, from, cases, input, output, line, text);
         differences += case.differences;
         if !case.there {
-            report(cases, differences);
+            report(rt, cases, differences);
             return;
         }
         cases += 1;
     }
-    report(cases, differences);
+    report(rt, cases, differences);
 }
 
-fn main() {
+fn main(rt: HostRuntime) {
     let mut input = [0u8; BLOCK_LENGTH];
     let mut output = [0u8; BLOCK_LENGTH];
     let mut line = [0u8; LINE_LENGTH];
     let mut text = [0u8; TEXT_LENGTH];
-    let fd = os::open_read(b"answers.bin");
-    if fd < 0 {
-        os::fail(b"answers.bin");
-        return;
+    match File::open(&rt, "answers.bin") {
+        Ok(mut from) => replay(
+            &rt,
+            &mut from,
+            &mut input,
+            &mut output,
+            &mut line,
+            &mut text,
+        ),
+        Err(e) => {
+            let _ = eprintln!(rt; "answers.bin: {e}");
+        }
     }
-    replay(fd, &mut input, &mut output, &mut line, &mut text);
 }
