@@ -17,7 +17,7 @@ pub const INPUT_LENGTH: usize = 32768;
 pub const TEXT_LENGTH: usize = 16384;
 
 // The offset of the next record, the texts so far, and what is held.
-#[derive(Drop)]
+#[derive(Clone, Copy)]
 pub struct Session {
     pub at: usize,
     pub texts: usize,
@@ -26,7 +26,7 @@ pub struct Session {
 
 // What a step prints: the front of the line, then the front of the text, each of this length; and where there is more to print, the session that
 // prints it.
-#[derive(Drop)]
+#[derive(Clone, Copy)]
 pub struct Printing {
     pub line: usize,
     pub text: usize,

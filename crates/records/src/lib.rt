@@ -12,7 +12,7 @@ use wire::reader::read;
 use wire::{Kind, ReadAnswer, Record};
 
 // The held values, each there or not.
-#[derive(Drop)]
+#[derive(Clone, Copy)]
 pub struct Held {
     pub has_key: bool,
     pub key: Key,
@@ -22,7 +22,7 @@ pub struct Held {
     pub entry: Entry,
 }
 
-#[derive(Drop)]
+#[derive(Clone, Copy)]
 pub enum ApplyAnswer {
     // A value is held now, or the held key is altered. How many bytes the record took.
     Replaced(usize),
@@ -31,7 +31,7 @@ pub enum ApplyAnswer {
     Refused(Refusal),
 }
 
-#[derive(Drop)]
+#[derive(Clone, Copy)]
 pub struct Applied {
     pub answer: ApplyAnswer,
     pub held: Held,

@@ -1,0 +1,22 @@
+-- The pieces stand one behind another, and a line of the program fits its buffer.
+use borrow.Author.Rules.{rules}
+use Rattle.text.proofs.Laws.{◌⨾◌}
+use Rattle.printout.proofs.LineLaws.{emit_line_lem}
+use Rattle.printout.proofs.lines.put_emit_line.Goals as goal
+
+pub returns : goal.returns
+returns c =
+    let line =
+    emit_line_lem _
+    (c.put-a.ensures.written
+    ⨾ c.put_decimal-b.ensures
+    ⨾ c.put-c.ensures.written
+    ⨾ c.put_decimal-d.ensures
+    ⨾ c.put-e.ensures.written
+    ⨾ c.put_decimal-f.ensures
+    ⨾ c.put-g.ensures.written
+    ⨾ c.put_warnings-h.ensures
+    ⨾ c.put.ensures.written)
+    (search rules)
+    in
+    record { length = line.0; line = line.1 }

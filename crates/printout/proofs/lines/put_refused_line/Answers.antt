@@ -1,0 +1,17 @@
+-- The pieces stand one behind another, and a line of the program fits its buffer.
+use borrow.Author.Rules.{rules}
+use Rattle.text.proofs.Laws.{◌⨾◌}
+use Rattle.printout.proofs.LineLaws.{refused_line_lem}
+use Rattle.printout.proofs.lines.put_refused_line.Goals as goal
+
+pub returns : goal.returns
+returns c =
+    let w =
+    c.put-a.ensures.written
+    ⨾ c.put_decimal-b.ensures
+    ⨾ c.put-c.ensures.written
+    ⨾ c.put_number-d.ensures
+    ⨾ c.put.ensures.written
+    in
+    let line = refused_line_lem _ _ (rw c.number.ensures at w) (search rules) in
+    record { length = line.0; line = line.1 }
