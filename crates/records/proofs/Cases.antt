@@ -1,10 +1,9 @@
 -- Which case of applying a record holds, from what the reader and emission promise.
 use mathlib.Core.Path.{◌≡◌, refl, sym, ap, ◌∙◌}
 use mathlib.Core.Bool.{Bool, true, false}
-use mathlib.Core.List.{List, [], ◌∷◌}
+use mathlib.Core.Logic.{◌⊎◌, inl, inr}
+use mathlib.Core.List.{List}
 use Prim.Native.Nat.{ℕ}
-use denote.Enum.Declared.{tag_of}
-use types.Run.{OneOf, miss}
 use Rattle.values.specs.declared.Key.{Key}
 use Rattle.values.specs.declared.Answer.{Answer}
 use Rattle.values.specs.declared.Refusal.{Refusal}
@@ -14,7 +13,6 @@ use Rattle.states.specs.Writes.{write_applied}
 use Rattle.shader.specs.Results.{answer_of}
 use Rattle.wire.specs.Reading.{read_record}
 use Rattle.wire.specs.declared.Kind.{Kind}
-use Rattle.wire.specs.contracts.Kind.{the_type}
 use Rattle.wire.proofs.Written.{AnyKey, any_key}
 use Rattle.wire.specs.declared.Kind.TheVariants as kind
 use Rattle.wire.specs.declared.Record.{Record}
@@ -73,14 +71,16 @@ module _ (h : Held) (b : List ℕ) (room : ℕ) {x : Reading} (e : x ≡ read_re
         ∙ by_answer t
 
 -- a record of any other kind
-pub replaces : (k : Kind) (n : ℕ) (h : Held) (room : ℕ) → OneOf (0 ∷ 1 ∷ 2 ∷ 4 ∷ 5 ∷ []) (tag_of the_type k) → apply_as k n h room ≡ Replaced n
+abbrev pub Replaces : Kind → Type 0
+Replaces k = (k ≡ kind.Key) ⊎ (k ≡ kind.Variant) ⊎ (k ≡ kind.Entry) ⊎ (k ≡ kind.State) ⊎ (k ≡ kind.WideKey)
+
+pub replaces : (k : Kind) (n : ℕ) (h : Held) (room : ℕ) → Replaces k → apply_as k n h room ≡ Replaced n
 unfolding apply_as
-replaces kind.Key n h room e = refl
-replaces kind.Variant n h room e = refl
-replaces kind.Entry n h room e = refl
-replaces kind.Emit n h room e = absurd (miss (0 ∷ 1 ∷ 2 ∷ 4 ∷ 5 ∷ []) 3 tt e)
-replaces kind.State n h room e = refl
-replaces kind.WideKey n h room e = refl
+replaces k n h room (inl e) = rw e
+replaces k n h room (inr (inl e)) = rw e
+replaces k n h room (inr (inr (inl e))) = rw e
+replaces k n h room (inr (inr (inr (inl e)))) = rw e
+replaces k n h room (inr (inr (inr (inr e)))) = rw e
 
 -- a key of either kind is held
 pub holds_key : (r : Record) (h : Held) → AnyKey r.kind → holding_key r.key h ≡ holding r.kind r h
