@@ -41,7 +41,8 @@ unfolding texel_name
 scales n row = refl
 
 pub lights : (tex : Bool) (i n : ℕ)
-    → flat (numbered i (bytes "    t# *= saturate(") ⊕ when tex (texel_name n ⊕ lit ".z * " ⊕ bump_row (2 * n + 1) ⊕ lit ".x + ") ⊕ bump_row (2 * n + 1) ⊕ lit ".y);\n")
+    → flat (numbered i (bytes "    t# *= saturate(") ⊕ when tex (texel_name n ⊕ lit ".z * " ⊕ bump_row (2 * n + 1) ⊕ lit ".x + ")
+    ⊕ bump_row (2 * n + 1) ⊕ lit ".y);\n")
     ≡ flat (luminance_line tex i n)
 unfolding luminance_line texel_name
 lights tex i n = refl

@@ -68,7 +68,8 @@ pair_text : (v : Variant) (i : ℕ) → flat (texture i (texture_type_of v i) �
 unfolding texture_parameter sampler_parameter texture_name sampler_name
 pair_text v i = refl
 
-pub paired : (v : Variant) (i : ℕ) (t : TextureType) → t ≡ texture_type_of v i → flat (texture i t ⊕ sampler i) ≡ flat (texture_parameter v i ⊕ sampler_parameter i)
+pub paired : (v : Variant) (i : ℕ) (t : TextureType) → t ≡ texture_type_of v i
+    → flat (texture i t ⊕ sampler i) ≡ flat (texture_parameter v i ⊕ sampler_parameter i)
 paired v i t e = ap (λ (x : TextureType). flat (texture i x ⊕ sampler i)) e ∙ pair_text v i
 
 pub sprites : flat (raw (flat
@@ -96,7 +97,8 @@ declared true = refl
 declared false = refl
 
 pub highlit : (b : Bool)
-    → flat (pick b (lit "    current = float4(saturate(current.rgb + in.color1.rgb), current.a);\n    float4 oC0 = current;\n") (lit "    float4 oC0 = current;\n"))
+    → flat (pick b (lit "    current = float4(saturate(current.rgb + in.color1.rgb), current.a);\n    float4 oC0 = current;\n")
+    (lit "    float4 oC0 = current;\n"))
     ≡ flat (specular_text b ⊕ lit "    float4 oC0 = current;\n")
 unfolding specular_text
 highlit true = refl

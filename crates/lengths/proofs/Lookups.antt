@@ -30,7 +30,8 @@ is_compare DepthCompare = true
 is_compare (Plain a) = false
 
 own_most : (f : Lookup) (lod projected : Bool) (i : ℕ) → most (lookup_text f lod projected i Interpolated) ≤ 199 + 4 * flag (is_compare f)
-unfolding lookup_text texel_line gather_text depth_text compare_text plain_text projected_line uv_text quotient_text half_texel_text level_text lod_row coordinate_text
+unfolding lookup_text texel_line gather_text depth_text compare_text plain_text projected_line uv_text quotient_text half_texel_text
+    level_text lod_row coordinate_text
     texture_name sampler_name texel_name flag
 own_most (Fetch4 a) lod projected i = lit≤ tt
 own_most (DepthFetch a) lod projected i = lit≤ tt
@@ -42,7 +43,8 @@ own_le f lod projected i = le_trans (size_most (lookup_text f lod projected i In
 
 -- at a displaced coordinate, which is divided already
 displaced_le : (f : Lookup) (lod : Bool) (i : ℕ) → size (lookup_text f lod false i Displaced) ≤ 120
-unfolding lookup_text texel_line gather_text depth_text compare_text plain_text projected_line uv_text quotient_text half_texel_text level_text lod_row coordinate_text
+unfolding lookup_text texel_line gather_text depth_text compare_text plain_text projected_line uv_text quotient_text half_texel_text
+    level_text lod_row coordinate_text
     texture_name sampler_name texel_name
 displaced_le (Fetch4 true) lod i = lit≤ tt
 displaced_le (Fetch4 false) lod i = lit≤ tt

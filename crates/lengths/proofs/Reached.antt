@@ -38,7 +38,8 @@ front_size : (wide : Bool) → size (front_text (longest_variant wide)) ≡ 943
 unfolding front_text varyings_text srgb_helper_text fragment_text
 front_size wide = refl
 
-body_size : (wide : Bool) → 943 + size (body_text (effective (longest_key wide)) (longest_variant wide) (active_stages (longest_key wide))) ≡ greatest_length wide 0
+body_size : (wide : Bool) → 943 + size (body_text (effective (longest_key wide)) (longest_variant wide) (active_stages (longest_key wide)))
+    ≡ greatest_length wide 0
 unfolding decimal_of
     texel_name constant_row source_text replicated arg_text op_text expression_text
     effective_stages active reads falls_back bump alpha_from_colour

@@ -52,13 +52,15 @@ pub fetched : (red lod projected : Bool) (i : ℕ) (c : Coordinate)
 unfolding lookup_text texel_line depth_text texel_name texture_name sampler_name
 fetched true lod projected i c =
     ap (λ (r : List ℕ). flat (numbered i (bytes "    float4 t# = float4(s#.sample(samp#, ")) ++ r)
-    (sym (fetch_ended (flat (uv_text projected false (coordinate_text i c))) (bytes ", ") (flat (level_text lod i)) (bytes ")") (bytes ", 0.0, 0.0, 1.0)") (bytes ";\n")))
+    (sym (fetch_ended (flat (uv_text projected false (coordinate_text i c))) (bytes ", ") (flat (level_text lod i)) (bytes ")") (bytes ", 0.0, 0.0, 1.0)")
+    (bytes ";\n")))
 fetched false lod projected i c =
     ap (λ (r : List ℕ). flat (numbered i (bytes "    float4 t# = float4(s#.sample(samp#, ")) ++ r)
     (sym (fetch_ended (flat (uv_text projected false (coordinate_text i c))) (bytes ", ") (flat (level_text lod i)) (bytes ")") (bytes ")") (bytes ";\n")))
 
 pub compared : (lod : Bool) (i : ℕ) (tc : Text)
-    → flat (numbered i (bytes "    float4 t# = float4(s#.sample_compare(samp#, ") ⊕ tc ⊕ lit ".xy, saturate(" ⊕ tc ⊕ lit ".z), " ⊕ level_text lod i ⊕ lit "));\n")
+    → flat (numbered i (bytes "    float4 t# = float4(s#.sample_compare(samp#, ") ⊕ tc ⊕ lit ".xy, saturate(" ⊕ tc ⊕ lit ".z), " ⊕ level_text lod i
+    ⊕ lit "));\n")
     ≡ flat (texel_line i (compare_text lod i tc))
 unfolding texel_line compare_text texel_name texture_name sampler_name
 compared lod i tc =
@@ -66,7 +68,8 @@ compared lod i tc =
     (sym (comparison_ended (flat tc) (bytes ".xy, saturate(") (flat tc) (bytes ".z)") (bytes ", ") (flat (level_text lod i)) (bytes "))") (bytes ";\n")))
 
 pub sampled : (three lod projected : Bool) (i : ℕ) (c : Coordinate)
-    → flat (numbered i (bytes "    float4 t# = s#.sample(samp#, ") ⊕ uv_text projected three (coordinate_text i c) ⊕ when lod (lit ", bias(" ⊕ lod_row i ⊕ lit ".x)")
+    → flat (numbered i (bytes "    float4 t# = s#.sample(samp#, ") ⊕ uv_text projected three (coordinate_text i c)
+    ⊕ when lod (lit ", bias(" ⊕ lod_row i ⊕ lit ".x)")
     ⊕ lit ");\n")
     ≡ flat (lookup_text (Plain three) lod projected i c)
 unfolding lookup_text texel_line plain_text texel_name texture_name sampler_name
