@@ -18,7 +18,7 @@ abbrev pub Rearrangement : List StateWrite → List StateWrite → Type 0
 Rearrangement ws xs = Permᴰ ws xs
 
 -- Ten's law, for what lists of writes make of s, a key or whatever holds one: `after ws s` is what the list ws leaves, its first write done first. It is
--- a theorem for every key, of kind 1 or 6, and so for the defaults, from which a key begins where none is held (`of-keys` of proofs/Rearranged); for
+-- a theorem for every key, of kind 1 or 6, and so for the defaults, from which a key begins where none is held (`of_keys` of proofs/Rearranged); for
 -- what is held, a key or none (records/proofs/Rearranged); and for the held bytes of the C interface (yuzuknoll/proofs/Rearranged). It is said of
 -- refused writes too: they leave all, in any order.
 pub record MayChangePlaces {S : Type 0} (after : List StateWrite → S → S) (s : S) : Type 0 where

@@ -50,7 +50,7 @@ last_written i t [] = none
 last_written i t (w ∷ r) = or_else (last_written i t r) (cond (writes w i t) (some w.value) none)
 
 -- The law. 02, One: "For every list of writes the key must hold, for each stage and type, the last value written, or else what it held before." It is a
--- theorem for every list: `last_written` of proofs/LastWritten for a key that was held, `from-defaults` for none, and `last-held` of
+-- theorem for every list: `last_written_lem` of proofs/LastWritten for a key that was held, `from_defaults` for none, and `last_held` of
 -- records/proofs/Writes for the records of the list, handed over one by one.
 abbrev pub LastWritten : List StateWrite → Key → Type 0
 LastWritten ws k = (i t : ℕ) → get_state i t (writes_applied ws k) ≡ get_or (last_written i t ws) (get_state i t k)
@@ -63,7 +63,7 @@ unfoldable pub any_widens : List StateWrite → Bool
 any_widens [] = false
 any_widens (w ∷ r) = widens w || any_widens r
 
--- The kind. 02, Nine: types 26 and 27 "make the key a kind 6 key"; "other writes leave a key's kind". It is `kind-written` of proofs/LastWritten.
+-- The kind. 02, Nine: types 26 and 27 "make the key a kind 6 key"; "other writes leave a key's kind". It is `kind_written` of proofs/LastWritten.
 abbrev pub KindWritten : List StateWrite → Key → Type 0
 KindWritten ws k = (writes_applied ws k).wide ≡ (k.wide || any_widens ws)
 
