@@ -1,5 +1,6 @@
 -- The patterns that the code tests, by length, are the reserved words (`by_length`).
-use Rattle.std.proofs.Common.{◌≡◌, ℕ, zero, suc, ◌+◌, ◌-◌, ◌*◌, ◌<◌, ◌≤◌, Bool, true, false, cond, ◌&&◌, ◌||◌, eqb, ltb, leb, List, [], ◌∷◌, ◌++◌, length, drop, sym, refl, ap, ◌∙◌, arith, drop_of_length-le, drop_at, ltb-true, ne_eqb, eqb-true}
+use Rattle.std.proofs.Common.{◌≡◌, ℕ, zero, suc, ◌+◌, ◌-◌, ◌*◌, ◌<◌, ◌≤◌, Bool, true, false, cond, ◌&&◌, ◌||◌, eqb, ltb, leb, List, [], ◌∷◌, ◌++◌}
+use Rattle.std.proofs.Common.{length, drop, sym, refl, ap, ◌∙◌, arith, drop_of_length-le, drop_at, ltb-true, ne_eqb, eqb-true}
 use Prim.Native.Char.{code}
 use Prim.Native.String.{String}
 use mathlib.Core.Option.{Option, none, some}
@@ -105,7 +106,8 @@ of_families (s ∷ l) k w h =
     found (some i) r = refl
     found none r = refl
 
-of_singles : (l : List String) (k : ℕ) (w : List ℕ) → all_plain l ≡ true → is_listed (in_list l k w) ≡ (fits_any (words_of l) w || fits_any (families_of families) w)
+of_singles : (l : List String) (k : ℕ) (w : List ℕ) → all_plain l ≡ true
+    → is_listed (in_list l k w) ≡ (fits_any (words_of l) w || fits_any (families_of families) w)
 of_singles [] k w h = of_families families k w refl
 of_singles (s ∷ l) k w h =
     let e = both (plain (bytes s)) (all_plain l) h in

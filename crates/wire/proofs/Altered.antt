@@ -18,7 +18,8 @@ use Rattle.states.specs.States.{default_stage, set_stage, set_state, stage_at, s
 use Rattle.states.specs.Writes.{write_applied}
 use Rattle.states.proofs.Accepted.{free}
 use Rattle.values.specs.Flags.{stage_flags_bad}
-use Rattle.wire.specs.Bodies.{body_length, key_kind, stage_size, stage_bytes, stages_bytes, key_bytes, specular_byte, stage_from_bytes, stages_from_bytes, key_from_body}
+use Rattle.wire.specs.Bodies.{body_length, key_kind, stage_size, stage_bytes, stages_bytes, key_bytes, specular_byte, stage_from_bytes}
+use Rattle.wire.specs.Bodies.{stages_from_bytes, key_from_body}
 use Rattle.wire.specs.Reading.{key_number, body_number}
 use Rattle.wire.specs.Altering.{Alterable, body_with}
 use Rattle.wire.proofs.Bodies.{key_again, key_settled, one_more, stage-length, stages_count}
@@ -53,7 +54,8 @@ place wide (s ∷ l) (suc i) h =
     }
 
 -- stage i of a body, as it is read there
-stage_of : (wide : Bool) (n i : ℕ) (b : List ℕ) (d : Stage) → i < n → get_or (stages_from_bytes wide n b) i d ≡ stage_from_bytes wide (drop (stage_size wide * i) b)
+stage_of : (wide : Bool) (n i : ℕ) (b : List ℕ) (d : Stage) → i < n
+    → get_or (stages_from_bytes wide n b) i d ≡ stage_from_bytes wide (drop (stage_size wide * i) b)
 unfolding stages_from_bytes
 stage_of wide zero i b d h = absurd (omega arith)
 stage_of wide (suc n) zero b d h = ap (λ (m : ℕ). stage_from_bytes wide (drop m b)) (none_before wide)

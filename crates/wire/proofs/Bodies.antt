@@ -22,7 +22,8 @@ use Rattle.states.specs.States.{wide_stages}
 use Rattle.states.specs.Writes.{accepted}
 use Rattle.wire.specs.Bodies.{body_length, key_kind, record_length, stage_size, body_bytes, record_bytes}
 use Rattle.wire.specs.Bodies.{stage_bytes, stages_bytes, key_bytes, variant_bytes, entry_bytes, state_bytes}
-use Rattle.wire.specs.Bodies.{specular_at, specular_byte, stage_from_bytes, stages_from_bytes, key_from_body, variant_from_body, entry_from_body, state_from_body}
+use Rattle.wire.specs.Bodies.{specular_at, specular_byte, stage_from_bytes, stages_from_bytes, key_from_body, variant_from_body, entry_from_body}
+use Rattle.wire.specs.Bodies.{state_from_body}
 use Rattle.wire.specs.Values.{blank_key, blank_entry, key_as, key_record, variant_record, entry_record, emit_record, state_record}
 use Rattle.wire.specs.declared.Kind.{Kind}
 use Rattle.wire.specs.declared.Kind.TheVariants as kind
@@ -219,7 +220,8 @@ module _ (wide : Bool) (n : ℕ) (t : List ℕ) (h : stage_size wide * suc n ≤
   rest_fits : stage_size wide * n ≤ length (drop (stage_size wide) t)
   rest_fits = simp length-drop (omega (arith, one_more wide n))
 
-stages_again : (wide : Bool) (n : ℕ) (t : List ℕ) → stage_size wide * n ≤ length t → stages_bytes wide (stages_from_bytes wide n t) ≡ take (stage_size wide * n) t
+stages_again : (wide : Bool) (n : ℕ) (t : List ℕ) → stage_size wide * n ≤ length t
+    → stages_bytes wide (stages_from_bytes wide n t) ≡ take (stage_size wide * n) t
 unfolding stages_from_bytes stages_bytes
 stages_again true zero t h = refl
 stages_again false zero t h = refl

@@ -1,5 +1,6 @@
 -- Each step judges the byte where the state stands: no byte so far was wrong and those to come are right exactly where the entry is good.
-use Rattle.std.proofs.Common.{arith, rules, ◌≡◌, ℕ, ◌+◌, ◌<◌, ◌≤◌, Bool, true, false, cond, ◌&&◌, eqb, List, length, get_or, drop, sym, refl, ap, ◌∙◌, mod-eq_of_lt, add-one, drop_of_length-le, drop-cons}
+use Rattle.std.proofs.Common.{arith, rules, ◌≡◌, ℕ, ◌+◌, ◌<◌, ◌≤◌, Bool, true, false, cond, ◌&&◌, eqb, List, length, get_or, drop, sym, refl, ap, ◌∙◌}
+use Rattle.std.proofs.Common.{mod-eq_of_lt, add-one, drop_of_length-le, drop-cons}
 use Rattle.values.specs.declared.Entry.{Entry}
 use Rattle.values.specs.Entries.{entry_good}
 use Rattle.admission.specs.Pass.{right, started, pass_stepped, possible_in}

@@ -1,5 +1,6 @@
 -- The loop keeps that the patterns to come decide; one that fits decides at once, and so do patterns that are too short.
-use Rattle.std.proofs.Common.{arith, ◌≡◌, ℕ, zero, suc, ◌+◌, ◌-◌, ◌<◌, ◌≤◌, Bool, false, ◌||◌, List, length, take, drop, sym, refl, ap, ◌∙◌, length-drop, take_all, drop-drop}
+use Rattle.std.proofs.Common.{arith, ◌≡◌, ℕ, zero, suc, ◌+◌, ◌-◌, ◌<◌, ◌≤◌, Bool, false, ◌||◌, List, length, take, drop, sym, refl, ap, ◌∙◌}
+use Rattle.std.proofs.Common.{length-drop, take_all, drop-drop}
 use Rattle.admission.specs.Patterns.{fits_front, fits_one_of}
 use Rattle.admission.proofs.Reserved.{none_behind}
 use Rattle.admission.proofs.words.fits_one_of.Goals as goal
