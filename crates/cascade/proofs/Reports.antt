@@ -96,7 +96,13 @@ earlier : (c : Cause) (j i : ℕ) (ss : List Stage) → j < i → reported c j (
 unfolding reported reports_from
 earlier c j i [] h = refl
 earlier c j i (s ∷ r) h =
-    rw (joined c j (stage_reports i s) (reports_from (suc i) r), of_stage c j i s, ne_eqb j i (λ e. omega arith), and-false, earlier c j (suc i) r (omega arith))
+    rw (
+      joined c j (stage_reports i s) (reports_from (suc i) r),
+      of_stage c j i s,
+      ne_eqb j i (λ e. omega arith),
+      and-false,
+      earlier c j (suc i) r (omega arith),
+    )
 
 -- Masks.
 

@@ -62,7 +62,8 @@ unfolding marks_from marks_of reads_bump_env
 marks_cons alive s r = rw (marked_by_lem alive s r)
 
 module _ (l : List Stage) (n i : ℕ) (d : Stage) (w : Walk l n i) (p : 0 < i) where
-  pub facts_more : (f g : Facts) → f ≡ facts_of i (drop i (active l)) → g ≡ add_fact (i - 1) (get_or l (i - 1) d) f → g ≡ facts_of (i - 1) (drop (i - 1) (active l))
+  pub facts_more : (f g : Facts) → f ≡ facts_of i (drop i (active l)) → g ≡ add_fact (i - 1) (get_or l (i - 1) d) f
+      → g ≡ facts_of (i - 1) (drop (i - 1) (active l))
   facts_more f g = more facts_of add_fact facts_cons l n i d f g w p
 
   pub marks_more : (alive : Bool) (m o : Marks) → m ≡ marks_from alive (drop i (active l)) → o ≡ add_mark alive (get_or l (i - 1) d) m

@@ -64,7 +64,8 @@ keys = (1 ∷ 1 ∷ replicate 57 0) ∷ (6 ∷ 1 ∷ replicate 73 0) ∷ []
 
 example_printed : map (λ k. program_output (example k)) keys ≡ replicate 2 (lines_of ("emit 0 0 0 0 0 0 0" ∷ (z1_lines ++ ("end 1" ∷ []))))
 unfolding example keys program_output printed_from printed emit_line end_line decimal_of
-    holding apply_read apply_as read_record read_as read_body blank_key blank_variant blank_entry key_from_body stages_from_bytes variant_from_body entry_from_body
+    holding apply_read apply_as read_record read_as read_body blank_key blank_variant blank_entry
+    key_from_body stages_from_bytes variant_from_body entry_from_body
     effective_stages active stages_where last_constant any_factor rows_of live lookups_of reads_bump_env reported mask_from reports_from warned_stages
     stage_flags_bad all entry_good reserved_word answer_of
     specular_text fog_text test_text srgb_text return_text output_text varyings_text srgb_helper_text fragment_text front_text stage_in_text samplers_text

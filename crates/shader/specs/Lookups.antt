@@ -112,7 +112,9 @@ projected_line i tc =
 unfoldable pub lookup_text : Lookup → Bool → Bool → ℕ → Coordinate → Text
 lookup_text (Fetch4 alpha) lod projected i c = texel_line i (gather_text alpha projected i (coordinate_text i c))
 lookup_text (DepthFetch red) lod projected i c =
-    texel_line i (format "float4({depth}{fill})" (("depth" ≔ depth_text lod projected i (coordinate_text i c)) ∷ ("fill" ≔ when red (lit ", 0.0, 0.0, 1.0")) ∷ []))
+    texel_line i
+    (format "float4({depth}{fill})"
+    (("depth" ≔ depth_text lod projected i (coordinate_text i c)) ∷ ("fill" ≔ when red (lit ", 0.0, 0.0, 1.0")) ∷ []))
 lookup_text DepthCompare lod projected i c =
     pick projected (projected_line i (coordinate_text i c) ⊕ texel_line i (compare_text lod i (coordinate_text i Projected)))
     (texel_line i (compare_text lod i (coordinate_text i c)))
