@@ -4,7 +4,8 @@ use Rattle.values.specs.declared.Combiner.{Combiner}
 use Rattle.values.specs.declared.Stage.{Stage}
 use Rattle.values.specs.declared.Key.{Key}
 use Rattle.values.specs.Kinds.{default_arg0, seven_bytes}
-use Rattle.states.specs.Types.{colour_op, colour_arg1, colour_arg2, colour_arg0, alpha_op, alpha_arg1, alpha_arg2, alpha_arg0, result_arg, texture_bound, sets_arg0}
+use Rattle.states.specs.Types.{colour_op, colour_arg1, colour_arg2, colour_arg0, alpha_op, alpha_arg1, alpha_arg2, alpha_arg0}
+use Rattle.states.specs.Types.{result_arg, texture_bound, sets_arg0}
 
 -- 01: "Flag bit 0: a texture is bound; bit 1: the result goes to TEMP." The result's value is 1, CURRENT, or 5, TEMP.
 abbrev pub bound_of : ℕ → ℕ
