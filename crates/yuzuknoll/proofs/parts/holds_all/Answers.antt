@@ -1,0 +1,7 @@
+-- All are held where each part is.
+use Rattle.yuzuknoll.specs.Applying.{held_of}
+use Rattle.yuzuknoll.proofs.parts.holds_all.Goals as goal
+
+pub returns : goal.returns
+unfolding held_of
+returns c = rw (c.holds_key-key.ensures, c.part_held-variant.ensures, c.part_held-entry.ensures)
