@@ -6,8 +6,6 @@ use mathlib.Core.List.{List, [], ◌∷◌, ◌++◌}
 use native.Mathlib.Omega.{arith}
 use borrow.Author.Tests.{eqb-true, ne_eqb}
 use lib.Dec.{eqb}
-use denote.Enum.Declared.{tag_of}
-use types.Run.{OneOf, miss}
 use lib.ListN.{length, take, drop, get_or}
 use lib.Seq.{sets, length-take-le}
 use Rattle.text.specs.Text.{raw}
@@ -21,7 +19,6 @@ use Rattle.wire.specs.Bodies.{kind_byte, body_length, key_kind, record_length, k
 use Rattle.wire.specs.Reading.{body_number, record_number}
 use Rattle.wire.specs.declared.Kind.{Kind}
 use Rattle.wire.specs.declared.Kind.TheVariants as kind
-use Rattle.wire.specs.contracts.Kind.{the_type}
 use Rattle.records.specs.Applying.{holds_all, emit_number, applied_number}
 use Rattle.yuzuknoll.specs.Lent.{after, record_numbers, ReportedDemands}
 use Rattle.yuzuknoll.specs.Records.{kind_in}
@@ -158,16 +155,13 @@ pub record Keeps (k : Kind) : Type 0 where
   pub room : place_of k + record_length k ≤ held_length
   pub part : (b held : List ℕ) → part_with k b held ≡ take (record_length k) b
 
-abbrev kept : List ℕ
-kept = 0 ∷ 1 ∷ 2 ∷ 5 ∷ []
-
-pub keeps : (k : Kind) → OneOf kept (tag_of the_type k) → Keeps k
-keeps kind.Key h = record { other = refl; room = omega arith; part = λ b held. refl }
-keeps kind.Variant h = record { other = refl; room = omega arith; part = λ b held. refl }
-keeps kind.Entry h = record { other = refl; room = omega arith; part = λ b held. refl }
-keeps kind.Emit h = absurd (miss kept 3 tt h)
-keeps kind.State h = absurd (miss kept 4 tt h)
-keeps kind.WideKey h = record { other = refl; room = omega arith; part = λ b held. refl }
+pub keeps : (k : Kind) → (k ≡ kind.Emit → ⊥) → (k ≡ kind.State → ⊥) → Keeps k
+keeps kind.Key p q = record { other = refl; room = omega arith; part = λ b held. refl }
+keeps kind.Variant p q = record { other = refl; room = omega arith; part = λ b held. refl }
+keeps kind.Entry p q = record { other = refl; room = omega arith; part = λ b held. refl }
+keeps kind.Emit p q = absurd (p refl)
+keeps kind.State p q = absurd (q refl)
+keeps kind.WideKey p q = record { other = refl; room = omega arith; part = λ b held. refl }
 
 -- one that leaves held bytes as they are
 pub either_way : (t : Bool) (l : List ℕ) → l ≡ cond t l l

@@ -1,5 +1,5 @@
 -- The record's number, then 8 for want of room; else the bytes of the record are copied, which are those that the writer writes.
-use Rattle.std.proofs.Common.{rules, sym, ◌≡◌, ◌∙◌}
+use Rattle.std.proofs.Common.{rules, sym, ◌∙◌}
 use Rattle.std.proofs.Math.Seq.{length-take-le}
 use Rattle.wire.proofs.Bodies.{Bytes}
 use Rattle.yuzuknoll.proofs.Records.{bytes_within, write_over, write_copied}

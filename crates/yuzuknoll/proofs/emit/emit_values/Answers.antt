@@ -1,0 +1,9 @@
+-- By emission's promise of its answer, where it wrote a text.
+use Rattle.yuzuknoll.proofs.Emitting.{emission_accepted}
+use Rattle.yuzuknoll.proofs.emit.emit_values.Goals as goal
+
+pub returns-in-Text-clause-res : goal.returns-in-Text-clause-res
+returns-in-Text-clause-res c =
+    let a = c.args in
+    let p = c.emit_checked.ensures in
+    (emission_accepted a.key a.variant a.entry a.text.now a.res.now (p.answer, (p.buffer, (p.names, p.number))) c.in-Text.is c.report.ensures).1.1.0
