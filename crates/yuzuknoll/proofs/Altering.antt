@@ -125,7 +125,8 @@ module _ (held : List ℕ) where
 
 -- the record of such a key, written to the front of bytes that have room for it
 key_written : (held : List ℕ) (k : Key) {a : WriteAnswer} {held' : List ℕ} → length held ≡ held_length → Recordable k →
-    a ≡ write_answer (key_record k) (length held) → held' ≡ after_writing a (record_bytes (key_record k)) held → held' ≡ sets held 0 (record_bytes (key_record k))
+    a ≡ write_answer (key_record k) (length held) → held' ≡ after_writing a (record_bytes (key_record k)) held →
+    held' ≡ sets held 0 (record_bytes (key_record k))
 key_written held k h r e p =
     let v = record_bytes (key_record k) in
     let size = record-length (key_record k) (key_shaped k r.eight) in

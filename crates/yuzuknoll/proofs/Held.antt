@@ -156,7 +156,8 @@ module _ (k : Key) (r : Recordable k) where
   key_in : (wide : Bool) (x : List ℕ) → k.wide ≡ wide → key_from_body wide (key_bytes wide k ++ x) ≡ k
   key_in wide x e = key_back wide k x r.eight ∙ ap (λ (w : Bool). key_as w k) (sym e) ∙ key_own
 
-  key_held : (wide : Bool) (u x y z : List ℕ) → k.wide ≡ wide → held_in (kind_byte (key_kind wide) ∷ (key_bytes wide k ++ x)) y z ≡ holding_key k (held_in u y z)
+  key_held : (wide : Bool) (u x y z : List ℕ) → k.wide ≡ wide →
+      held_in (kind_byte (key_kind wide) ∷ (key_bytes wide k ++ x)) y z ≡ holding_key k (held_in u y z)
   unfolding body_number
   key_held true u x y z e = rw (key_in true x e, r.free, specular_back true k x r.eight)
   key_held false u x y z e = rw (key_in false x e, r.free, specular_back false k x r.eight)

@@ -12,8 +12,8 @@ use lib.ListN.{length, drop_of_length-le}
 use lib.Seq.{sets, sets-eq}
 use Rattle.values.specs.Refusals.{number_of}
 use Rattle.values.specs.declared.Refusal.{Refusal}
-use Rattle.values.specs.declared.Refusal.TheVariants.{CutShort, UnknownKind, StageFlags, SpecularAdd, VariantFlags, EntryName, EmitTooEarly, NoRoom, InputTooLong, ReservedWord}
-use Rattle.values.specs.declared.Refusal.TheVariants.{StageNumber, StateType, StateValue}
+use Rattle.values.specs.declared.Refusal.TheVariants.{CutShort, UnknownKind, StageFlags, SpecularAdd, VariantFlags, EntryName, EmitTooEarly, NoRoom}
+use Rattle.values.specs.declared.Refusal.TheVariants.{InputTooLong, ReservedWord, StageNumber, StateType, StateValue}
 use Rattle.yuzuknoll.specs.Lent.{after, first_of}
 
 pub not_zero : (c : Refusal) → number_of c ≡ 0 → ⊥

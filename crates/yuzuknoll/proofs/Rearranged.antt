@@ -105,7 +105,8 @@ module _ (w : StateWrite) (r : List StateWrite) (held : List ℕ) (h : length he
       let longer : record_length (key_kind made.wide) ≤ record_length (key_kind last.wide) =
       rw (kind_written r made) (no_shorter made.wide (any_widens r)) in
       let within = key_within last.wide in
-      laid_again (record_bytes (key_record made)) (record_bytes (key_record last)) held (omega (arith, first, second, longer)) (omega (arith, second, within, h))
+      laid_again (record_bytes (key_record made)) (record_bytes (key_record last)) held (omega (arith, first, second, longer))
+      (omega (arith, second, within, h))
 
   further : (b : Bool) → any_accepted r ≡ b → cond b (over last (over made held)) (over made held) ≡ over last held
   further true e = covered
