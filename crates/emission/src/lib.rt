@@ -34,12 +34,14 @@ fn put_text(out: &mut [u8], k: Key, v: Variant, e: Entry, u: Survey) -> Place
     ensures over { length out.old < length (flat (whole_text k v e)) → out.new ≡ out.old }
     ensures lookups { result.lookups ≡ lookups_of u.live (active k.stages) }
 {
-    if MOST_TEXT <= out.len() {
+    let takes_any = MOST_TEXT <= out.len();
+    if takes_any {
         return put_whole(out, k, v, e, u);
     }
     let mut aside = [0u8; MOST_TEXT];
     let w = put_whole(&mut aside, k, v, e, u);
-    if w.at <= out.len() {
+    let fits = w.at <= out.len();
+    if fits {
         put(out, 0, &aside[..w.at]);
     }
     w
@@ -56,7 +58,8 @@ pub fn emit_checked(key: Key, variant: Variant, entry: Entry, out: &mut [u8]) ->
 {
     let u = survey(key);
     let written = put_text(out, key, variant, entry, u);
-    if out.len() < written.at {
+    let short = out.len() < written.at;
+    if short {
         return Answer::Refused(Refusal::NoRoom);
     }
     Answer::Text(Emitted {

@@ -8,8 +8,8 @@ use Rattle.emission.proofs.emit_checked.Goals as goal
 pub put_text-written-requires : goal.put_text-written-requires
 put_text-written-requires c = (c.survey-u.ensures, entry_short c.args.entry c.requires.1.entry_name)
 
-pub returns-then-out-written : goal.returns-then-out-written
-returns-then-out-written c =
+pub returns-then-short : goal.returns-then-short
+returns-then-short c =
     let k = c.args.key in
     let v = c.args.variant in
     let e = c.args.entry in
@@ -17,7 +17,7 @@ returns-then-out-written c =
     let w = c.put_text-written.ensures in
     let kept : length c.put_text-written.new.out ≡ length c.args.out.now = c.put_text-written.auto.out in
     let text : length (text_of k v e) ≡ c.put_text-written.result.at = rw same at (sym w.place) in
-    let short : length c.args.out.now < length (text_of k v e) = omega (arith, text, kept, c.if-out-written.true) in
+    let short : length c.args.out.now < length (text_of k v e) = omega (arith, text, kept, c.if-short.true) in
     let a = no_room k v e (length c.args.out.now) c.requires.1 short in
     record { answer = a; buffer = w.over (rw same short); names = tt; number = numbered _ _ _ _ a }
 
@@ -30,7 +30,7 @@ returns c =
     let w = c.put_text-written.ensures in
     let kept : length c.put_text-written.new.out ≡ length c.args.out.now = c.put_text-written.auto.out in
     let text : length (text_of k v e) ≡ c.put_text-written.result.at = rw same at (sym w.place) in
-    let fits : length (text_of k v e) ≤ length c.args.out.now = omega (arith, text, kept, c.if-out-written.false) in
+    let fits : length (text_of k v e) ≤ length c.args.out.now = omega (arith, text, kept, c.if-short.false) in
     let m = accepted k v e c.survey-u.result _ _ c.requires.0 c.survey-u.ensures (sym text) w.lookups in
     let a = ap Text m ∙ with_room k v e (length c.args.out.now) c.requires.1 fits in
     let b = rw same at (w.fits (rw same fits)) in
