@@ -1,7 +1,6 @@
 -- At each `return` the answer to the record says which case of `answered_step` holds.
-use Rattle.std.proofs.Common.{ℕ, refl, ap, ◌∙◌, false, true, arith, ◌≡◌}
-use borrow.Author.Rules.{rules}
-use Rattle.printout.specs.Steps.{applied_at, answered_step, stepped}
+use Rattle.std.proofs.Common.{ℕ, refl, ap, ◌∙◌, false, true, arith}
+use Rattle.printout.specs.Steps.{answered_step, stepped}
 use Rattle.printout.proofs.Steps.{as_step, applied_rest, answered, taken, on_fits}
 use Rattle.printout.proofs.step_record.Goals as goal
 
