@@ -16,8 +16,8 @@ use Rattle.values.specs.declared.Emitted.{Emitted}
 use Rattle.values.specs.declared.Answer.{Answer}
 use Rattle.values.specs.declared.Answer.TheVariants as emission
 use Rattle.values.specs.declared.Refusal.{Refusal}
-use Rattle.values.specs.declared.Refusal.TheVariants.{CutShort, UnknownKind, StageFlags, SpecularAdd, VariantFlags, EntryName, ReservedWord, EmitTooEarly, NoRoom, InputTooLong}
-use Rattle.values.specs.declared.Refusal.TheVariants.{StageNumber, StateType, StateValue}
+use Rattle.values.specs.declared.Refusal.TheVariants.{CutShort, UnknownKind, StageFlags, SpecularAdd, VariantFlags, EntryName, ReservedWord}
+use Rattle.values.specs.declared.Refusal.TheVariants.{EmitTooEarly, NoRoom, InputTooLong, StageNumber, StateType, StateValue}
 use Rattle.shader.specs.Results.{text_of, emitted_of, answer_of, emission_number}
 use Rattle.wire.specs.Bodies.{key_kind, kind_byte, record_length}
 use Rattle.wire.specs.Values.{key_record, variant_record, entry_record, state_record}

@@ -23,7 +23,8 @@ use Rattle.wire.specs.declared.Kind.{Kind}
 use Rattle.wire.specs.declared.Kind.TheVariants as kind
 use Rattle.wire.specs.declared.Record.{Record}
 use Rattle.wire.proofs.Found.{read_shaped}
-use Rattle.records.specs.Applying.{nothing_held, holds_all, key_or_defaults, holding, held_after, apply_answer, applied, apply_number, emit_number, applied_number}
+use Rattle.records.specs.Applying.{nothing_held, holds_all, key_or_defaults, holding, held_after, apply_answer, applied}
+use Rattle.records.specs.Applying.{apply_number, emit_number, applied_number}
 use Rattle.records.specs.declared.Held.{Held}
 use Rattle.records.specs.declared.ApplyAnswer.{ApplyAnswer}
 use Rattle.records.specs.declared.ApplyAnswer.TheVariants.{Replaced, Text, Refused}

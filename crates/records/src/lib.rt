@@ -2,7 +2,8 @@
 #![tactic(auto)]
 
 ghost use Rattle.std.specs.Prelude.{◌≡◌, length};
-ghost use Rattle.records.specs.Applying.{AppliedDemands, applied, applied_number, apply_as, apply_number, emit_number, holding, holds_all, key_or_defaults, nothing_held, text_after};
+ghost use Rattle.records.specs.Applying.{AppliedDemands, applied, applied_number, apply_as, apply_number, emit_number};
+ghost use Rattle.records.specs.Applying.{holding, holds_all, key_or_defaults, nothing_held, text_after};
 
 use emission::emit;
 use states::{defaults, set};
