@@ -14,9 +14,10 @@
  *     if (yuzuknoll_emit(&key, &variant, &entry, text, sizeof text, &result) == YUZUKNOLL_ACCEPTED)
  *         fwrite(text, 1, result.length, stdout);
  *
- * The command `tools/archive` makes the library, target/staticlib/libyuzuknoll.a, for x86-64 Linux. The command
- * `ports/build` makes it for 64-bit Arm Linux, Macs and WebAssembly too. These give the same bytes on the calls that
- * ports/test makes; the code for Macs was run, but not on a Mac. docs/PORTS.md says what was run where.
+ * The command `tools/archive` makes the library, target/staticlib/libyuzuknoll.a, for x86-64 Linux, with a processor
+ * of the level x86-64-v2 (2009 or later). The command `ports/build` makes it for 64-bit Arm Linux, Macs and
+ * WebAssembly too. These give the same bytes on the calls that ports/test makes; the code for Macs was run, but not on
+ * a Mac. docs/PORTS.md says what was run where.
  *
  * The library needs no set-up, keeps nothing between calls and allocates no memory. Threads may call it at the same
  * time, as long as no call writes to memory that another one uses.

@@ -1,5 +1,5 @@
--- After every front of a body the state tells whether some body that begins so is an entry's (`possible-exactly`); after a whole body, whether that
--- one is (`whole-body`).
+-- After every front of a body the state tells whether some body that begins so is an entry's (`possible_exactly`); after a whole body, whether that
+-- one is (`whole_body`).
 use Rattle.std.proofs.Common.{◌≡◌, ℕ, zero, suc, ◌+◌, ◌-◌, ◌%◌, ◌<◌, ◌≤◌, Bool, true, false, cond, not, ◌&&◌, ◌||◌, eqb, leb, List, [], ◌∷◌, ◌++◌}
 use Rattle.std.proofs.Common.{length, get_or, take, drop, sym, refl, ap, ◌∙◌, append_assoc, mod-eq_of_lt, add-one, arith, length-append}
 use Rattle.std.proofs.Common.{length-take-le, ne_eqb, le-leb, leb-true}

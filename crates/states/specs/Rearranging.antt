@@ -12,7 +12,7 @@ Different w x = (w.stage ≡ x.stage) × (w.state ≡ x.state) → ⊥
 abbrev pub NoneTwice : List StateWrite → Type 0
 NoneTwice ws = Pairwise Different ws
 
--- One list is a rearrangement of the other, as the kit's library has it (`List.Permᴰ`), by exchanges of neighbours: the empty list is one of itself;
+-- One list is a rearrangement of the other, as the kit's library has it (`Permᴰ`), by exchanges of neighbours: the empty list is one of itself;
 -- equal first writes may be put in front of two; the first two writes may be exchanged; and a rearrangement of a rearrangement is one.
 abbrev pub Rearrangement : List StateWrite → List StateWrite → Type 0
 Rearrangement ws xs = Permᴰ ws xs
