@@ -35,12 +35,7 @@ returns-then-entry_reserved c =
 pub emit_checked-requires : goal.emit_checked-requires
 emit_checked-requires c =
     let admitted : Admitted c.args.key c.args.variant c.args.entry =
-    record {
-      stage_flags = sym c.stage_flags_bad.ensures ∙ c.if-stage_flags_bad.false;
-      variant_flags = sym c.variant_flags_bad.ensures ∙ c.if-variant_flags_bad.false;
-      entry_name = sym c.entry_good.ensures ∙ c.if-not-entry_good.false;
-      entry_word = sym c.entry_reserved.ensures ∙ c.if-entry_reserved.false;
-    } in
+    record { stage_flags = cc; variant_flags = cc; entry_name = cc; entry_word = cc } in
     takes_place (effective_in_place _ _ _) c.effective-k.ensures admitted
 
 pub returns : goal.returns
@@ -48,13 +43,7 @@ returns c =
     let k = c.args.key in
     let v = c.args.variant in
     let e = c.args.entry in
-    let admitted : Admitted k v e =
-    record {
-      stage_flags = sym c.stage_flags_bad.ensures ∙ c.if-stage_flags_bad.false;
-      variant_flags = sym c.variant_flags_bad.ensures ∙ c.if-variant_flags_bad.false;
-      entry_name = sym c.entry_good.ensures ∙ c.if-not-entry_good.false;
-      entry_word = sym c.entry_reserved.ensures ∙ c.if-entry_reserved.false;
-    } in
+    let admitted : Admitted k v e = record { stage_flags = cc; variant_flags = cc; entry_name = cc; entry_word = cc } in
     let place = effective_in_place k v e in
     let a = rw c.effective-k.ensures at c.emit_checked.ensures.answer ∙ place_answer place _ in
     let b = rw (c.effective-k.ensures, place.same_text) at c.emit_checked.ensures.buffer in
