@@ -1,5 +1,5 @@
 -- Why a call is refused: the numbers of 01's table, and those that the requests of 02 add.
-use Rattle.std.specs.Prelude.{ℕ}
+use Rattle.std.specs.Prelude.{ℕ, Result, Ok, Err}
 use Rattle.values.specs.declared.Refusal.{Refusal}
 use Rattle.values.specs.declared.Refusal.TheVariants.{CutShort, UnknownKind, StageFlags, SpecularAdd, VariantFlags, EntryName, EmitTooEarly, NoRoom, InputTooLong, ReservedWord, StageNumber, StateType, StateValue}
 
@@ -21,3 +21,8 @@ number_of ReservedWord = 13
 number_of StageNumber = 10
 number_of StateType = 11
 number_of StateValue = 12
+
+-- the number of what a call answers: 0 where it accepts
+abbrev pub number_in : {A : Type 0} → Result A Refusal → ℕ
+number_in (Ok x) = 0
+number_in (Err c) = number_of c

@@ -1,11 +1,13 @@
 //! The values that the libraries hand to one another: keys, variants, entries, what emission reports, and why a call is refused.
 #![tactic(auto)]
 
-ghost use Rattle.std.specs.Prelude.{◌≡◌};
-ghost use Rattle.values.specs.Refusals.{number_of};
+ghost use Rattle.std.specs.Prelude.{◌≡◌, ◌<◌, ℕ};
+ghost use Rattle.values.specs.Refusals.{number_in, number_of};
+
+use std::marker::Model;
 
 // An op and its arguments, in Direct3D 9's codes. Only ops of three operands have an argument 0.
-#[derive(Clone, Copy)]
+#[derive(Clone, Copy, Default)]
 pub struct Combiner {
     pub op: u8,
     pub arg1: u8,
@@ -14,7 +16,7 @@ pub struct Combiner {
 }
 
 // A texture stage. Flag bit 0: a texture is bound; bit 1: the result goes to TEMP.
-#[derive(Clone, Copy)]
+#[derive(Clone, Copy, Default)]
 pub struct Stage {
     pub colour: Combiner,
     pub alpha: Combiner,
@@ -23,7 +25,7 @@ pub struct Stage {
 
 // Bit i of projected is for stage i. A wide key, of record kind 6, has stages of nine bytes, with argument 0 of colour and of alpha; in another, of
 // kind 1 with stages of seven, no op has an argument 0.
-#[derive(Clone, Copy)]
+#[derive(Clone, Copy, Default)]
 pub struct Key {
     pub stages: [Stage; 8],
     pub specular_add: bool,
@@ -32,7 +34,7 @@ pub struct Key {
 }
 
 // The render states beside the key that shape the text. Masks have bit i for stage i.
-#[derive(Clone, Copy)]
+#[derive(Clone, Copy, Default)]
 pub struct Variant {
     pub alpha_func: u8,
     pub fog_mode: u8,
@@ -49,14 +51,14 @@ pub struct Variant {
 }
 
 // The name of the fragment function: its first len bytes, then zeros.
-#[derive(Clone, Copy)]
+#[derive(Clone, Copy, Default)]
 pub struct Entry {
     pub len: u8,
     pub name: [u8; 32],
 }
 
 // A write of a texture stage state: a stage, the state's type by its number, and a value.
-#[derive(Clone, Copy)]
+#[derive(Clone, Copy, Default)]
 pub struct StateWrite {
     pub stage: u8,
     pub state: u8,
@@ -74,6 +76,38 @@ pub struct Emitted {
     pub selector_warnings: u8,
     pub modifier_warnings: u8,
     pub alpha_warning: bool,
+}
+
+// The number of one of the eight stages. Contracts see the number.
+#[derive(Clone, Copy)]
+pub struct StageIndex {
+    number: u8,
+}
+
+impl Model for StageIndex {
+    ghost Value = { ℕ };
+
+    ghost view = { λ i. i.number };
+
+    ghost invariant = { λ i. i.number < 8 };
+
+    ghost inverse = { λ n. record { number = n } };
+}
+
+impl StageIndex {
+    pub fn new(number: u8) -> StageIndex
+        requires { number < 8 }
+        ensures { result ≡ number }
+    {
+        StageIndex { number }
+    }
+
+    pub fn number(self) -> u8
+        ensures number { result ≡ self }
+        ensures below { result < 8 }
+    {
+        self.number
+    }
 }
 
 // Why a call is refused: 1 to 9 in order, then 13, then 10 to 12.
@@ -94,30 +128,35 @@ pub enum Refusal {
     StateValue,
 }
 
-// What emission from values answers.
-#[derive(Clone, Copy)]
-pub enum Answer {
-    Text(Emitted),
-    Refused(Refusal),
+// The number of a refusal.
+impl From<Refusal> for u8 {
+    ghost from_gives = { λ refusal number. number ≡ number_of refusal };
+
+    fn from(refusal: Refusal) -> u8 {
+        match refusal {
+            Refusal::CutShort => 1,
+            Refusal::UnknownKind => 2,
+            Refusal::StageFlags => 3,
+            Refusal::SpecularAdd => 4,
+            Refusal::VariantFlags => 5,
+            Refusal::EntryName => 6,
+            Refusal::EmitTooEarly => 7,
+            Refusal::NoRoom => 8,
+            Refusal::InputTooLong => 9,
+            Refusal::ReservedWord => 13,
+            Refusal::StageNumber => 10,
+            Refusal::StateType => 11,
+            Refusal::StateValue => 12,
+        }
+    }
 }
 
-// The number of a refusal.
-pub fn number(refusal: Refusal) -> u8
-    ensures { result ≡ number_of refusal }
+// The number of a call: that of its refusal, or 0.
+pub fn number<T: Drop>(answer: Result<T, Refusal>) -> u8
+    ensures { result ≡ number_in answer }
 {
-    match refusal {
-        Refusal::CutShort => 1,
-        Refusal::UnknownKind => 2,
-        Refusal::StageFlags => 3,
-        Refusal::SpecularAdd => 4,
-        Refusal::VariantFlags => 5,
-        Refusal::EntryName => 6,
-        Refusal::EmitTooEarly => 7,
-        Refusal::NoRoom => 8,
-        Refusal::InputTooLong => 9,
-        Refusal::ReservedWord => 13,
-        Refusal::StageNumber => 10,
-        Refusal::StateType => 11,
-        Refusal::StateValue => 12,
+    match answer {
+        Ok(_) => 0,
+        Err(refusal) => u8::from(refusal),
     }
 }
