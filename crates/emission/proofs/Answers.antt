@@ -8,6 +8,7 @@ use native.Mathlib.Nat.{zero-add}
 use native.Mathlib.Decide.{dec_le}
 use native.Mathlib.Omega.{arith}
 use borrow.Author.Tests.{le-ltb, lt-ltb}
+use Rattle.std.specs.Prelude.{Result, Ok, Err}
 use lib.Dec.{leb, T, leb→le}
 use lib.ListN.{length, take, drop}
 use lib.Seq.{take_at}
@@ -25,14 +26,14 @@ use Rattle.values.specs.Flags.{stage_flags_bad, variant_flags_bad}
 use Rattle.values.specs.Entries.{entry_good}
 use Rattle.values.specs.Words.{entry_reserved}
 use Rattle.values.specs.Admitted.{Admitted}
-use Rattle.shader.specs.Results.{text_of, in_front, buffer_after, alpha_warning, emitted_of, answer_of, answer_number, emission_number}
+use Rattle.shader.specs.Results.{text_of, in_front, buffer_after, alpha_warning, emitted_of, answer_of, emission_number}
+use Rattle.values.specs.Refusals.{number_in}
 use Rattle.shader.specs.Demand.{Demands, Demanded}
 use Rattle.values.specs.declared.Variant.{Variant}
 use Rattle.values.specs.declared.Entry.{Entry}
 use Rattle.values.specs.declared.Emitted.{Emitted}
 use Rattle.values.specs.declared.Refusal.TheVariants.{StageFlags, VariantFlags, EntryName, ReservedWord, NoRoom}
-use Rattle.values.specs.declared.Answer.{Answer}
-use Rattle.values.specs.declared.Answer.TheVariants.{Text, Refused}
+use Rattle.values.specs.declared.Refusal.{Refusal}
 use Rattle.shader.proofs.Names.Truth.{and_fst}
 use Rattle.shader.proofs.Names.Whole.{demand}
 use Rattle.shader.proofs.Numbers.{number_of_answer}
@@ -53,33 +54,33 @@ copied t out aside rest e f h w = whole (rw (f, take_at t rest _ (sym e)) at w) 
 
 -- The first cause that holds is the one that is answered; of admitted values the room alone decides.
 module _ (k : Key) (v : Variant) (e : Entry) (room : ℕ) where
-  pub stage_flags_lem : stage_flags_bad k.stages ≡ true → Refused StageFlags ≡ answer_of k v e room
+  pub stage_flags_lem : stage_flags_bad k.stages ≡ true → Err StageFlags ≡ answer_of k v e room
   unfolding answer_of
   stage_flags_lem s = rw s
 
-  pub variant_flags_lem : stage_flags_bad k.stages ≡ false → variant_flags_bad v ≡ true → Refused VariantFlags ≡ answer_of k v e room
+  pub variant_flags_lem : stage_flags_bad k.stages ≡ false → variant_flags_bad v ≡ true → Err VariantFlags ≡ answer_of k v e room
   unfolding answer_of
   variant_flags_lem s f = rw (s, f)
 
-  pub entry_name_lem : stage_flags_bad k.stages ≡ false → variant_flags_bad v ≡ false → entry_good e ≡ false → Refused EntryName ≡ answer_of k v e room
+  pub entry_name_lem : stage_flags_bad k.stages ≡ false → variant_flags_bad v ≡ false → entry_good e ≡ false → Err EntryName ≡ answer_of k v e room
   unfolding answer_of
   entry_name_lem s f n = rw (s, f, n)
 
   pub reserved_word_lem : stage_flags_bad k.stages ≡ false → variant_flags_bad v ≡ false → entry_good e ≡ true → entry_reserved e ≡ true
-      → Refused ReservedWord ≡ answer_of k v e room
+      → Err ReservedWord ≡ answer_of k v e room
   unfolding answer_of
   reserved_word_lem s f n w = rw (s, f, n, w)
 
-  pub no_room : Admitted k v e → room < length (text_of k v e) → Refused NoRoom ≡ answer_of k v e room
+  pub no_room : Admitted k v e → room < length (text_of k v e) → Err NoRoom ≡ answer_of k v e room
   unfolding answer_of
   no_room h l = rw (h.stage_flags, h.variant_flags, h.entry_name, h.entry_word, lt-ltb _ _ l)
 
-  pub with_room : Admitted k v e → length (text_of k v e) ≤ room → Text (emitted_of k v e) ≡ answer_of k v e room
+  pub with_room : Admitted k v e → length (text_of k v e) ≤ room → Ok (emitted_of k v e) ≡ answer_of k v e room
   unfolding answer_of
   with_room h l = rw (h.stage_flags, h.variant_flags, h.entry_name, h.entry_word, le-ltb _ _ l)
 
-  pub numbered : {a : Answer} → a ≡ answer_of k v e room → answer_number a ≡ emission_number k v e room
-  numbered h = ap answer_number h ∙ number_of_answer k v e room
+  pub numbered : {a : Result Emitted Refusal} → a ≡ answer_of k v e room → number_in a ≡ emission_number k v e room
+  numbered h = ap number_in h ∙ number_of_answer k v e room
 
 pub accepted : (k : Key) (v : Variant) (e : Entry) (u : Survey) (at lookups : ℕ) → effective_stages k ≡ k.stages → u ≡ survey_of k.stages
     → at ≡ length (text_of k v e) → lookups ≡ lookups_of u.live (active k.stages)
@@ -103,7 +104,7 @@ module _ (k : Key) (v : Variant) (e : Entry) (out out' : List ℕ) (l : length k
   in_the_buffer m hm ho =
       rw (hm, ho, take_at (text_of k v e) (drop (length (text_of k v e)) out) _ refl) (demand k v e l (subst T (sym h.entry_name) tt))
 
-  pub demanded : (r : Answer) → r ≡ answer_of k v e (length out) → out' ≡ buffer_after r (text_of k v e) out → Demanded k r out'
+  pub demanded : (r : Result Emitted Refusal) → r ≡ answer_of k v e (length out) → out' ≡ buffer_after r (text_of k v e) out → Demanded k r out'
   demanded r hr ho =
       by_cases (dec_le (length (text_of k v e)) (length out))
       (λ fits. let a = hr ∙ sym (with_room k v e (length out) h fits) in rw a (in_the_buffer _ refl (rw a at ho)))

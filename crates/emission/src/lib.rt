@@ -7,17 +7,18 @@ ghost use Rattle.cascade.specs.Keys.{active};
 ghost use Rattle.cascade.specs.Effective.{effective_stages};
 ghost use Rattle.cascade.specs.Reading.{lookups_of};
 ghost use Rattle.cascade.specs.Survey.{survey_of};
-ghost use Rattle.shader.specs.Results.{answer_number, answer_of, buffer_after, emission_number, front_of, in_front, text_of};
+ghost use Rattle.shader.specs.Results.{answer_of, buffer_after, emission_number, front_of, in_front, text_of};
 ghost use Rattle.shader.specs.Whole.{whole_text};
 ghost use Rattle.shader.specs.Demand.{Demanded};
 ghost use Rattle.values.specs.Admitted.{Admitted};
+ghost use Rattle.values.specs.Refusals.{number_in};
 
 use cascade::Survey;
 use cascade::effective::effective;
 use cascade::walks::survey;
 use function::{Place, put_whole};
 use text::put;
-pub use values::{Answer, Combiner, Emitted, Entry, Key, Refusal, Stage, Variant};
+pub use values::{Combiner, Emitted, Entry, Key, Refusal, Stage, Variant};
 
 // D3DCMP_ALWAYS, the last comparison that Direct3D 9 names.
 const ALWAYS: u8 = 8;
@@ -49,20 +50,25 @@ fn put_text(out: &mut [u8], k: Key, v: Variant, e: Entry, u: Survey) -> Place
 
 // Writes the text of values that are free of the causes 3, 5, 6 and 13, of a key whose stages take effect as they are, to the front of out. Neither is
 // looked at again.
-pub fn emit_checked(key: Key, variant: Variant, entry: Entry, out: &mut [u8]) -> Answer
+pub fn emit_checked(
+    key: Key,
+    variant: Variant,
+    entry: Entry,
+    out: &mut [u8],
+) -> Result<Emitted, Refusal>
     requires { (effective_stages key ≡ key.stages) × Admitted key variant entry }
     ensures answer { result ≡ answer_of key variant entry (length out.old) }
     ensures buffer { out.new ≡ buffer_after result (text_of key variant entry) out.old }
     ensures names { Demanded key result out.new }
-    ensures number { answer_number result ≡ emission_number key variant entry (length out.old) }
+    ensures number { number_in result ≡ emission_number key variant entry (length out.old) }
 {
     let u = survey(key);
     let written = put_text(out, key, variant, entry, u);
     let short = out.len() < written.at;
     if short {
-        return Answer::Refused(Refusal::NoRoom);
+        return Err(Refusal::NoRoom);
     }
-    Answer::Text(Emitted {
+    Ok(Emitted {
         length: written.at,
         mask: u.mask,
         rows: u.rows,
@@ -75,36 +81,26 @@ pub fn emit_checked(key: Key, variant: Variant, entry: Entry, out: &mut [u8]) ->
 }
 
 // Writes the text of a key, a variant and an entry to the front of out; bytes behind it stay. A refusal leaves out as it was.
-pub fn emit(key: Key, variant: Variant, entry: Entry, out: &mut [u8]) -> Answer
+pub fn emit(key: Key, variant: Variant, entry: Entry, out: &mut [u8]) -> Result<Emitted, Refusal>
     ensures answer { result ≡ answer_of key variant entry (length out.old) }
     ensures buffer { out.new ≡ buffer_after result (text_of key variant entry) out.old }
     ensures names { Demanded key result out.new }
-    ensures number { answer_number result ≡ emission_number key variant entry (length out.old) }
+    ensures number { number_in result ≡ emission_number key variant entry (length out.old) }
 {
     if admission::stage_flags_bad(key) {
-        return Answer::Refused(Refusal::StageFlags);
+        return Err(Refusal::StageFlags);
     }
     if admission::variant_flags_bad(variant) {
-        return Answer::Refused(Refusal::VariantFlags);
+        return Err(Refusal::VariantFlags);
     }
     if !admission::entry_good(entry) {
-        return Answer::Refused(Refusal::EntryName);
+        return Err(Refusal::EntryName);
     }
     if admission::entry_reserved(entry) {
-        return Answer::Refused(Refusal::ReservedWord);
+        return Err(Refusal::ReservedWord);
     }
     let k = effective(key);
     emit_checked(k, variant, entry, out)
-}
-
-// The number of an answer: 0 for a text.
-pub fn number(answer: Answer) -> u8
-    ensures { result ≡ answer_number answer }
-{
-    match answer {
-        Answer::Text(_) => 0,
-        Answer::Refused(refusal) => values::number(refusal),
-    }
 }
 
 // The written front of a buffer, for the length that emission answered; empty for a length beyond the buffer.

@@ -5,15 +5,16 @@ use mathlib.Core.Path.{◌≡◌, ap, sym, ◌∙◌}
 use native.Mathlib.Omega.{arith}
 use native.Mathlib.Nat.{le_trans}
 use borrow.Author.Tests.{le-ltb}
+use Rattle.std.specs.Prelude.{Err}
 use lib.Dec.{T, leb, ltb, leb→le}
 use lib.ListN.{length, length-take}
-use Rattle.shader.specs.Results.{text_of, answer_of, answer_number, emission_number}
+use Rattle.shader.specs.Results.{text_of, answer_of, emission_number}
 use Rattle.shader.proofs.Names.Truth.{and_fst}
 use Rattle.shader.proofs.Numbers.{number_of_answer}
 use Rattle.values.specs.Entries.{name_of, entry_good}
 use Rattle.values.specs.Flags.{stage_flags_bad, variant_flags_bad}
+use Rattle.values.specs.Refusals.{number_in}
 use Rattle.values.specs.Words.{entry_reserved}
-use Rattle.values.specs.declared.Answer.TheVariants.{Refused}
 use Rattle.values.specs.declared.Entry.{Entry}
 use Rattle.values.specs.declared.Key.{Key}
 use Rattle.values.specs.declared.Refusal.TheVariants.{NoRoom}
@@ -48,6 +49,6 @@ module _ (k : Key) (v : Variant) (e : Entry) (n : ℕ) where
       omega (arith, any_at_most k v e stages)
 
   -- a slot that is cut to the greatest length
-  pub slot_never_no_room : Typed k v → Permitted e → greatest_length k.wide e.len ≤ n → answer_of k v e n ≡ Refused NoRoom → ⊥
+  pub slot_never_no_room : Typed k v → Permitted e → greatest_length k.wide e.len ≤ n → answer_of k v e n ≡ Err NoRoom → ⊥
   slot_never_no_room t p h a =
-      number_not_eight (λ good. le_trans (at_most_greatest k v e t p) h) (sym (number_of_answer k v e n) ∙ ap answer_number a)
+      number_not_eight (λ good. le_trans (at_most_greatest k v e t p) h) (sym (number_of_answer k v e n) ∙ ap number_in a)

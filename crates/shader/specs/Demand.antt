@@ -1,7 +1,7 @@
 -- Demand 3: what the text of an accepted emission says of its names, and what its result says of the text and of the key.
 -- 01: "Lookups in the result are the emitter's own count, one for each lookup that it wrote." Here that count is held to the text, to the reading
 -- rule and to the mask. It is said of keys of both kinds; 02, of kind 6: "names, `ps_c` rows, lookups and mask obey the mission's third property for it".
-use Rattle.std.specs.Prelude.{ℕ, zero, suc, ◌+◌, ◌/◌, ◌%◌, ◌≤◌, ◌<◌, Bool, cond, ◌≡◌, List, [], ◌∷◌, ◌++◌, take}
+use Rattle.std.specs.Prelude.{ℕ, zero, suc, ◌+◌, ◌/◌, ◌%◌, ◌≤◌, ◌<◌, Bool, cond, ◌≡◌, List, [], ◌∷◌, ◌++◌, take, Result, Ok, Err}
 use Rattle.cascade.specs.Effective.{active_stages}
 use Rattle.cascade.specs.Reading.{live, lookups_of}
 use Rattle.values.specs.Listed.{Name}
@@ -9,8 +9,7 @@ use Rattle.shader.specs.Names.{same_name, Occurrence, declaration, usage, row, o
 use Rattle.shader.specs.Idle.{is_word, NoIdle}
 use Rattle.values.specs.declared.Key.{Key}
 use Rattle.values.specs.declared.Emitted.{Emitted}
-use Rattle.values.specs.declared.Answer.{Answer}
-use Rattle.values.specs.declared.Answer.TheVariants.{Text, Refused}
+use Rattle.values.specs.declared.Refusal.{Refusal}
 
 -- how often a name is declared
 abbrev pub declared : Name → List Occurrence → ℕ
@@ -59,6 +58,6 @@ pub record Demands (key : Key) (text : List ℕ) (m : Emitted) : Type 0 where
   pub no_idle : NoIdle text
 
 -- of an answer and the bytes that the buffer then holds: a refusal wrote no text
-abbrev pub Demanded : Key → Answer → List ℕ → Type 0
-Demanded key (Refused r) out = Unit {0}
-Demanded key (Text m) out = Demands key (take m.length out) m
+abbrev pub Demanded : Key → Result Emitted Refusal → List ℕ → Type 0
+Demanded key (Err c) out = Unit {0}
+Demanded key (Ok m) out = Demands key (take m.length out) m

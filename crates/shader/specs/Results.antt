@@ -1,5 +1,5 @@
 -- What emission from values answers, and what it leaves in the lent buffer.
-use Rattle.std.specs.Prelude.{ℕ, Bool, not, cond, List, [], ◌++◌, leb, ltb, length, take, drop}
+use Rattle.std.specs.Prelude.{ℕ, Bool, not, cond, List, [], ◌++◌, leb, ltb, length, take, drop, Result, Ok, Err}
 use Rattle.text.specs.Text.{flat}
 use Rattle.combiners.specs.Codes.{always}
 use Rattle.combiners.specs.Warnings.{op_cause, selector_cause, modifier_cause}
@@ -8,7 +8,6 @@ use Rattle.cascade.specs.Effective.{active_stages, effective}
 use Rattle.cascade.specs.Reading.{live, lookups_of}
 use Rattle.cascade.specs.Warnings.{warned_stages}
 use Rattle.values.specs.declared.Key.{Key}
-use Rattle.values.specs.Refusals.{number_of}
 use Rattle.values.specs.Flags.{stage_flags_bad, variant_flags_bad}
 use Rattle.values.specs.Entries.{entry_good}
 use Rattle.values.specs.Words.{entry_reserved}
@@ -16,9 +15,8 @@ use Rattle.shader.specs.Whole.{whole_text}
 use Rattle.values.specs.declared.Variant.{Variant}
 use Rattle.values.specs.declared.Entry.{Entry}
 use Rattle.values.specs.declared.Emitted.{Emitted}
+use Rattle.values.specs.declared.Refusal.{Refusal}
 use Rattle.values.specs.declared.Refusal.TheVariants.{StageFlags, VariantFlags, EntryName, ReservedWord, NoRoom}
-use Rattle.values.specs.declared.Answer.{Answer}
-use Rattle.values.specs.declared.Answer.TheVariants.{Text, Refused}
 
 -- the bytes of the text
 abbrev pub text_of : Key → Variant → Entry → List ℕ
@@ -42,18 +40,13 @@ emitted_of k v e =
     }
 
 -- 01: "Emission from values .. check 3, 5, 6 and 8 in that order"; 02 puts 13 behind 6. room is the buffer's length.
-unfoldable pub answer_of : Key → Variant → Entry → ℕ → Answer
+unfoldable pub answer_of : Key → Variant → Entry → ℕ → Result Emitted Refusal
 answer_of k v e room =
-    cond (stage_flags_bad k.stages) (Refused StageFlags)
-    (cond (variant_flags_bad v) (Refused VariantFlags)
-    (cond (not (entry_good e)) (Refused EntryName)
-    (cond (entry_reserved e) (Refused ReservedWord)
-    (cond (ltb room (length (text_of k v e))) (Refused NoRoom) (Text (emitted_of k v e))))))
-
--- the number of an answer: 0 for a text
-abbrev pub answer_number : Answer → ℕ
-answer_number (Text m) = 0
-answer_number (Refused c) = number_of c
+    cond (stage_flags_bad k.stages) (Err StageFlags)
+    (cond (variant_flags_bad v) (Err VariantFlags)
+    (cond (not (entry_good e)) (Err EntryName)
+    (cond (entry_reserved e) (Err ReservedWord)
+    (cond (ltb room (length (text_of k v e))) (Err NoRoom) (Ok (emitted_of k v e))))))
 
 -- the number that 01's table gives: 3 "a stage flag bit 2 to 7", 5 "variant flag bit 6 or 7", 6 for the entry, 13 for a
 -- reserved word, 8 "text longer than the buffer", in that order; 0 where none of them holds
@@ -70,9 +63,9 @@ abbrev pub in_front : List ℕ → List ℕ → List ℕ
 in_front text out = text ++ drop (length text) out
 
 -- A refusal leaves all.
-abbrev pub buffer_after : Answer → List ℕ → List ℕ → List ℕ
-buffer_after (Refused r) text out = out
-buffer_after (Text m) text out = in_front text out
+abbrev pub buffer_after : Result Emitted Refusal → List ℕ → List ℕ → List ℕ
+buffer_after (Err c) text out = out
+buffer_after (Ok m) text out = in_front text out
 
 -- 01: "the written front of that buffer, an empty part for a length beyond it"
 abbrev pub front_of : List ℕ → ℕ → List ℕ

@@ -1,6 +1,6 @@
 -- The values are admitted, so the room alone decides: `put_text` laid the text into the buffer where it fits, and left the buffer where it does not.
 use Rattle.std.proofs.Common.{arith, ◌≤◌, ◌<◌, ◌≡◌, length, ap, sym, ◌∙◌}
-use Rattle.values.specs.declared.Answer.TheVariants.{Text}
+use Rattle.std.specs.Prelude.{Ok}
 use Rattle.shader.specs.Results.{text_of}
 use Rattle.emission.proofs.Answers.{effective_whole, entry_short, no_room, with_room, accepted, demanded, numbered}
 use Rattle.emission.proofs.emit_checked.Goals as goal
@@ -32,6 +32,6 @@ returns c =
     let text : length (text_of k v e) ≡ c.put_text-written.result.at = rw same at (sym w.place) in
     let fits : length (text_of k v e) ≤ length c.args.out.now = omega (arith, text, kept, c.if-short.false) in
     let m = accepted k v e c.survey-u.result _ _ c.requires.0 c.survey-u.ensures (sym text) w.lookups in
-    let a = ap Text m ∙ with_room k v e (length c.args.out.now) c.requires.1 fits in
+    let a = ap Ok m ∙ with_room k v e (length c.args.out.now) c.requires.1 fits in
     let b = rw same at (w.fits (rw same fits)) in
     record { answer = a; buffer = b; names = demanded k v e _ _ (omega arith) c.requires.1 _ a b; number = numbered k v e _ a }
