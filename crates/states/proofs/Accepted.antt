@@ -6,8 +6,7 @@ use native.Mathlib.Omega.{arith}
 use borrow.Author.Tests.{ltb-false, leb-true, eqb-true}
 use lib.Dec.{eqb, leb, ltb}
 use Rattle.values.specs.declared.StateWrite.{StateWrite}
-use Rattle.states.specs.declared.Checked.{Checked}
-use Rattle.states.specs.declared.Checked.TheVariants.{Good, Bad}
+use Rattle.std.specs.Prelude.{Result, Ok, Err, is_err}
 use Rattle.values.specs.Refusals.{number_of}
 use Rattle.values.specs.declared.Refusal.{Refusal}
 use Rattle.values.specs.declared.Refusal.TheVariants.{StageNumber, StateType, StateValue}
@@ -42,29 +41,29 @@ takes_byte t v e = go (eqb t result_arg) (eqb t texture_bound) e
     go false false e = omega (arith, leb-true v 255 e)
 
 -- What is checked, its number, and whether the write is accepted come of the same tests: Q of each cause and Q of an accepted write give Q of them.
-pub check_cases : (Q : Bool → ℕ → Checked → Type 0) (w : StateWrite) → ((c : Refusal) → Q false (number_of c) (Bad c)) →
-    (accepted w ≡ true → Q true 0 Good) → Q (accepted w) (state_write_number w) (checked_write w)
+pub check_cases : (Q : Bool → ℕ → Result (Unit {0}) Refusal → Type 0) (w : StateWrite) → ((c : Refusal) → Q false (number_of c) (Err c)) →
+    (accepted w ≡ true → Q true 0 (Ok tt)) → Q (accepted w) (state_write_number w) (checked_write w)
 unfolding checked_write state_write_number
 check_cases Q w f g = go (ltb 7 w.stage) (is_type w.state) (takes w.state w.value) g
   where
-    go : (a b c : Bool) → (eqb (cond a 10 (cond (not b) 11 (cond (not c) 12 0))) 0 ≡ true → Q true 0 Good)
+    go : (a b c : Bool) → (eqb (cond a 10 (cond (not b) 11 (cond (not c) 12 0))) 0 ≡ true → Q true 0 (Ok tt))
         → Q (eqb (cond a 10 (cond (not b) 11 (cond (not c) 12 0))) 0) (cond a 10 (cond (not b) 11 (cond (not c) 12 0)))
-        (cond a (Bad StageNumber) (cond (not b) (Bad StateType) (cond (not c) (Bad StateValue) Good)))
+        (cond a (Err StageNumber) (cond (not b) (Err StateType) (cond (not c) (Err StateValue) (Ok tt))))
     go true b c g = f StageNumber
     go false false c g = f StateType
     go false true false g = f StateValue
     go false true true g = g refl
 
--- so a write that is accepted is good, and one that is good is accepted
-pub good : (w : StateWrite) → accepted w ≡ true → checked_write w ≡ Good
-good w = check_cases (λ (a : Bool) (n : ℕ) (c : Checked). a ≡ true → c ≡ Good) w (λ c e. absurd (false≢true e)) (λ _ _. refl)
+-- so a write that is accepted is good, and is no error
+pub good : (w : StateWrite) → accepted w ≡ true → checked_write w ≡ Ok tt
+good w = check_cases (λ (a : Bool) (n : ℕ) (c : Result (Unit {0}) Refusal). a ≡ true → c ≡ Ok tt) w (λ c e. absurd (false≢true e)) (λ _ _. refl)
 
-abbrev pub is_good : Checked → Bool
-is_good Good = true
-is_good (Bad c) = false
+agrees : (w : StateWrite) → accepted w ≡ not (is_err (checked_write w))
+agrees w = check_cases (λ (a : Bool) (n : ℕ) (c : Result (Unit {0}) Refusal). a ≡ not (is_err c)) w (λ c. refl) (λ _. refl)
 
-pub agrees : (w : StateWrite) → accepted w ≡ is_good (checked_write w)
-agrees w = check_cases (λ (a : Bool) (n : ℕ) (c : Checked). a ≡ is_good c) w (λ c. refl) (λ _. refl)
+-- what was checked tells whether the write is accepted
+pub is_accepted : (w : StateWrite) {c : Result (Unit {0}) Refusal} → c ≡ checked_write w → is_err c ≡ false → accepted w ≡ true
+is_accepted w e h = agrees w ∙ ap (λ (c : Result (Unit {0}) Refusal). not (is_err c)) (sym e) ∙ ap not h
 
-pub told_good : (w : StateWrite) {c : Checked} → c ≡ checked_write w → c ≡ Good → accepted w ≡ true
-told_good w e g = agrees w ∙ ap is_good (sym e ∙ g)
+pub is_refused : (w : StateWrite) {c : Result (Unit {0}) Refusal} → c ≡ checked_write w → is_err c ≡ true → accepted w ≡ false
+is_refused w e h = agrees w ∙ ap (λ (c : Result (Unit {0}) Refusal). not (is_err c)) (sym e) ∙ ap not h

@@ -1,14 +1,10 @@
 -- Writes of states: which are turned away, what one does to a key, and what a list of them does.
-use Rattle.std.specs.Prelude.{ℕ, ◌≡◌, Bool, false, not, ◌&&◌, ◌||◌, cond, List, [], ◌∷◌, eqb, ltb}
+use Rattle.std.specs.Prelude.{ℕ, ◌≡◌, Bool, false, not, ◌&&◌, ◌||◌, cond, List, [], ◌∷◌, eqb, ltb, Result, Ok, Err}
 use Rattle.std.proofs.Math.Option.{Option, some, none, or_else, get_or}
 use Rattle.values.specs.declared.Key.{Key}
 use Rattle.values.specs.declared.StateWrite.{StateWrite}
-use Rattle.states.specs.declared.Checked.{Checked}
-use Rattle.states.specs.declared.Checked.TheVariants.{Good, Bad}
 use Rattle.values.specs.declared.Refusal.TheVariants.{StageNumber, StateType, StateValue}
-use Rattle.values.specs.Refusals.{number_of}
-use Rattle.states.specs.declared.StateAnswer.{StateAnswer}
-use Rattle.states.specs.declared.StateAnswer.TheVariants.{Value, Refused}
+use Rattle.values.specs.declared.Refusal.{Refusal}
 use Rattle.states.specs.Types.{is_type, sets_arg0, takes}
 use Rattle.states.specs.States.{get_state, set_state}
 
@@ -18,15 +14,10 @@ unfoldable pub state_write_number : StateWrite → ℕ
 state_write_number w = cond (ltb 7 w.stage) 10 (cond (not (is_type w.state)) 11 (cond (not (takes w.state w.value)) 12 0))
 
 -- the same, by the cases of `Refusal`
-unfoldable pub checked_write : StateWrite → Checked
+unfoldable pub checked_write : StateWrite → Result (Unit {0}) Refusal
 checked_write w =
-    cond (ltb 7 w.stage) (Bad StageNumber)
-    (cond (not (is_type w.state)) (Bad StateType) (cond (not (takes w.state w.value)) (Bad StateValue) Good))
-
--- the number of what was checked, 0 for a good write
-abbrev pub checked_number : Checked → ℕ
-checked_number Good = 0
-checked_number (Bad c) = number_of c
+    cond (ltb 7 w.stage) (Err StageNumber)
+    (cond (not (is_type w.state)) (Err StateType) (cond (not (takes w.state w.value)) (Err StateValue) (Ok tt)))
 
 abbrev pub accepted : StateWrite → Bool
 accepted w = eqb (state_write_number w) 0
@@ -68,5 +59,5 @@ abbrev pub KindWritten : List StateWrite → Key → Type 0
 KindWritten ws k = (writes_applied ws k).wide ≡ (k.wide || any_widens ws)
 
 -- what is answered for a stage and a type of a key: the state, or 10 or 11 as for a write
-unfoldable pub got_state : Key → ℕ → ℕ → StateAnswer
-got_state k i t = cond (ltb 7 i) (Refused StageNumber) (cond (not (is_type t)) (Refused StateType) (Value (get_state i t k)))
+unfoldable pub got_state : Key → ℕ → ℕ → Result ℕ Refusal
+got_state k i t = cond (ltb 7 i) (Err StageNumber) (cond (not (is_type t)) (Err StateType) (Ok (get_state i t k)))

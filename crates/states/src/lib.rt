@@ -6,7 +6,8 @@ ghost use Rattle.values.specs.Kinds.{seven_bytes, three_bytes};
 ghost use Rattle.states.specs.Types.{is_type, sets_arg0, takes};
 ghost use Rattle.states.specs.States.{default_combiner, default_stage, defaults, result_arg_of, set_stage, stage_state};
 ghost use Rattle.states.specs.States.{stages_for, wide_stages, with_bound, with_result};
-ghost use Rattle.states.specs.Writes.{checked_number, checked_write, got_state, state_write_number, write_applied};
+ghost use Rattle.values.specs.Refusals.{number_in};
+ghost use Rattle.states.specs.Writes.{checked_write, got_state, state_write_number, write_applied};
 
 use combiners::codes::*;
 use values::{Combiner, Key, Refusal, Stage, StateWrite};
@@ -42,20 +43,6 @@ const STAGES: usize = 8;
 // What an argument 0 is where nothing has written it.
 pub const DEFAULT_ARG0: u8 = D3DTA_CURRENT;
 
-// Whether a write is accepted, or why not.
-#[derive(Drop)]
-pub enum Checked {
-    Good,
-    Bad(Refusal),
-}
-
-// What a key holds for a stage and a type, or why there is no such state.
-#[derive(Drop)]
-pub enum StateAnswer {
-    Value(u8),
-    Refused(Refusal),
-}
-
 // The types that only a key of kind 6 has.
 pub fn sets_arg0(state: u8) -> bool
     ensures { result ≡ sets_arg0 state }
@@ -87,20 +74,20 @@ fn takes(state: u8, value: u32) -> bool
 
 // Whether a write is accepted: its stage is looked at first, then its type, then its value.
 #[tactic(auto, unfolding(crate::specs::Writes::checked_write, crate::specs::Writes::state_write_number))]
-pub fn check(write: StateWrite) -> Checked
+pub fn check(write: StateWrite) -> Result<(), Refusal>
     ensures answer { result ≡ checked_write write }
-    ensures number { checked_number result ≡ state_write_number write }
+    ensures number { number_in result ≡ state_write_number write }
 {
     if LAST_STAGE < write.stage {
-        return Checked::Bad(Refusal::StageNumber);
+        return Err(Refusal::StageNumber);
     }
     if !is_type(write.state) {
-        return Checked::Bad(Refusal::StateType);
+        return Err(Refusal::StateType);
     }
     if !takes(write.state, write.value) {
-        return Checked::Bad(Refusal::StateValue);
+        return Err(Refusal::StateValue);
     }
-    Checked::Good
+    Ok(())
 }
 
 fn default_combiner(op: u8) -> Combiner
@@ -223,18 +210,18 @@ fn wide_stages(key: Key) -> [Stage; 8]
 }
 
 // What a key holds for a stage and a type.
-pub fn get(key: Key, stage: u8, state: u8) -> StateAnswer
+pub fn get(key: Key, stage: u8, state: u8) -> Result<u8, Refusal>
     ensures { result ≡ got_state key stage state }
 {
     if LAST_STAGE < stage {
-        return StateAnswer::Refused(Refusal::StageNumber);
+        return Err(Refusal::StageNumber);
     }
     if !is_type(state) {
-        return StateAnswer::Refused(Refusal::StateType);
+        return Err(Refusal::StateType);
     }
     let s = key.stages[stage as usize];
     let held = wide_stage(s, key.wide);
-    StateAnswer::Value(state_of(held, state))
+    Ok(state_of(held, state))
 }
 
 // The texture's bit and the result's share a byte: each write leaves the other's bit.
@@ -286,9 +273,9 @@ fn stages_for(state: u8, key: Key) -> [Stage; 8]
 pub fn set(key: Key, write: StateWrite) -> Key
     ensures { result ≡ write_applied write key }
 {
-    let Checked::Good = check(write) else {
+    if check(write).is_err() {
         return key;
-    };
+    }
     let i = write.stage as usize;
     let mut stages = stages_for(write.state, key);
     let s = stages[i];

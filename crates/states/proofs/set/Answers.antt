@@ -1,39 +1,42 @@
--- A good write is accepted, so its stage is one of the eight and its value a byte; a bad one leaves the key.
-use Rattle.std.proofs.Common.{arith, rules, ◌≡◌, length, false, sym, ap, ◌∙◌}
+-- A write that is not refused is accepted, so its stage is one of the eight and its value a byte; a refused one leaves the key.
+use Rattle.std.proofs.Common.{arith, rules, ◌≡◌, length, true, false, sym, ◌∙◌}
+use Rattle.std.specs.Prelude.{is_err}
 use Rattle.states.specs.States.{default_stage, set_state, stages_for}
-use Rattle.values.specs.declared.StateWrite.{StateWrite}
-use Rattle.states.specs.declared.Checked.{Checked}
-use Rattle.states.specs.declared.Checked.TheVariants.{Good}
-use Rattle.states.specs.Writes.{checked_write, write_applied}
+use Rattle.states.specs.Writes.{accepted, checked_write, write_applied}
 use Rattle.states.proofs.Stages.{get_or_there}
 use Rattle.states.proofs.Widening.{for_length}
-use Rattle.states.proofs.Accepted.{Accepted, agrees, free, is_good, takes_byte, told_good}
+use Rattle.states.proofs.Accepted.{free, is_accepted, is_refused, takes_byte}
 use Rattle.states.proofs.set.Goals as goal
 
-pub returns-in_default : goal.returns-in_default
+pub returns-then-is_err : goal.returns-then-is_err
 unfolding write_applied
-returns-in_default c = let g : is_good c.check.result ≡ false = rw c.in_default.is in rw (agrees c.args.write ∙ ap is_good (sym c.check.ensures.answer) ∙ g)
-
-accepts : (w : StateWrite) (r : Checked) → r ≡ checked_write w → r ≡ Good → Accepted w
-accepts w r e g = free w (told_good w e g)
+returns-then-is_err c =
+    let refused : is_err c.check.result ≡ true = search rules in
+    rw (is_refused c.args.write c.check.ensures.answer refused)
 
 pub bounds-stages-i : goal.bounds-stages-i
-bounds-stages-i c = omega (arith, (accepts c.args.write _ c.check.ensures.answer c.in-Good.is).stage)
+bounds-stages-i c =
+    let taken : is_err c.check.result ≡ false = search rules in
+    omega (arith, (free c.args.write (is_accepted c.args.write c.check.ensures.answer taken)).stage)
 
 pub overflow_cast-write : goal.overflow_cast-write
 overflow_cast-write c =
     let w = c.args.write in
-    omega (arith, takes_byte w.state w.value (accepts w _ c.check.ensures.answer c.in-Good.is).value)
+    let taken : is_err c.check.result ≡ false = search rules in
+    omega (arith, takes_byte w.state w.value (free w (is_accepted w c.check.ensures.answer taken)).value)
 
 pub bounds-stages-i-2 : goal.bounds-stages-i-2
-bounds-stages-i-2 c = omega (arith, (accepts c.args.write _ c.check.ensures.answer c.in-Good.is).stage)
+bounds-stages-i-2 c =
+    let taken : is_err c.check.result ≡ false = search rules in
+    omega (arith, (free c.args.write (is_accepted c.args.write c.check.ensures.answer taken)).stage)
 
 pub returns : goal.returns
 unfolding write_applied set_state
 returns c =
     let w = c.args.write in
     let k = c.args.key in
-    let good = told_good w c.check.ensures.answer c.in-Good.is in
+    let taken : is_err c.check.result ≡ false = search rules in
+    let good = is_accepted w c.check.ensures.answer taken in
     let eight : length k.stages ≡ 8 = search rules in
     let i = (free w good).stage in
     rw (good, c.sets_arg0.ensures, c.set_stage.ensures, c.stages_for-stages.ensures)
