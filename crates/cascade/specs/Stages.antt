@@ -1,7 +1,7 @@
 -- A stage decoded to its expressions, and the line that it writes.
 -- 01: "Alpha is one of: from colour (op 24 without fallback), kept (alpha op 1, or 22 or 23 without fallback), or an expression. A bump stage has
 -- no expressions at all and is passed over early."
-use Rattle.std.specs.Prelude.{ℕ, Bool, false, cond, [], ◌∷◌, eqb}
+use Rattle.std.specs.Prelude.{ℕ, Bool, false, cond, Option, Some, None, [], ◌∷◌, eqb}
 use Rattle.text.specs.Text.{Text, lit, pick}
 use Rattle.text.specs.Format.{format, ◌≔◌}
 use Rattle.combiners.specs.Codes.{disable}
@@ -16,8 +16,7 @@ use Rattle.values.specs.declared.Combiner.{Combiner}
 use Rattle.values.specs.declared.Stage.{Stage}
 use Rattle.cascade.specs.declared.Alpha.{Alpha}
 use Rattle.cascade.specs.declared.Alpha.TheVariants.{FromColour, Kept, Written}
-use Rattle.cascade.specs.declared.Decoded.{Decoded}
-use Rattle.cascade.specs.declared.Decoded.TheVariants.{Writes, Bump}
+use Rattle.cascade.specs.declared.Expressions.{Expressions}
 
 abbrev pub current_arg : Arg
 current_arg = record { source = Current; replicate = false; complement = false }
@@ -43,8 +42,8 @@ alpha_of s =
     (cond (falls_back (textured s) s.alpha) (Written fallback)
     (cond (is_bump_op s.alpha.op) Kept (Written (combined (textured s) s.alpha)))))
 
-unfoldable pub decode : Stage → Decoded
-decode s = cond (bump s) Bump (Writes (record { colour = expression_of (textured s) s.colour; alpha = alpha_of s }))
+unfoldable pub decode : Stage → Option Expressions
+decode s = cond (bump s) None (Some (record { colour = expression_of (textured s) s.colour; alpha = alpha_of s }))
 
 -- the register that the result goes to
 abbrev pub result_name : Bool → Text

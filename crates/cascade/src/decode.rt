@@ -1,9 +1,9 @@
-//! A stage decoded: its expressions, or that it is a bump stage.
+//! A stage decoded: the expressions that it writes.
 ghost use Rattle.std.specs.Prelude.{◌≡◌};
 ghost use Rattle.cascade.specs.Stages.{current_arg, fallback, arg0_of, combined, expression_of, alpha_of, decode};
 
 use crate::keys::{alpha_from_colour, falls_back, is_bump, is_bump_op, textured};
-use crate::{Alpha, Decoded, Expressions};
+use crate::{Alpha, Expressions};
 use combiners::arguments::arg_of;
 use combiners::codes::*;
 use combiners::ops::{op_of, three_operands};
@@ -91,16 +91,17 @@ fn alpha_of(s: Stage) -> Alpha
     Alpha::Written(e)
 }
 
+// A bump stage writes none.
 #[tactic(auto, unfolding(crate::specs::Stages::decode))]
-pub fn decode(s: Stage) -> Decoded
+pub fn decode(s: Stage) -> Option<Expressions>
     ensures { result ≡ decode s }
 {
     if is_bump(s) {
-        return Decoded::Bump;
+        return None;
     }
     let colour = expression_of(textured(s), s.colour);
     let alpha = alpha_of(s);
-    Decoded::Writes(Expressions {
+    Some(Expressions {
         colour: colour,
         alpha: alpha,
     })

@@ -26,13 +26,6 @@ pub struct Expressions {
     pub alpha: Alpha,
 }
 
-// A stage with its expressions, or a bump stage, which has none.
-#[derive(Clone, Copy)]
-pub enum Decoded {
-    Writes(Expressions),
-    Bump,
-}
-
 // What a key says before any byte of text.
 #[derive(Clone, Copy)]
 pub struct Survey {

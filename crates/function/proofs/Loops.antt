@@ -6,6 +6,7 @@ use mathlib.Core.List.{List, ◌∷◌}
 use native.Mathlib.Omega.{arith}
 use native.Mathlib.Numerals.{add-one}
 use lib.Dec.{eqb}
+use Rattle.std.specs.Prelude.{Option, Some, None}
 use lib.ListN.{length, drop, get_or}
 use Rattle.text.specs.Text.{when}
 use Rattle.text.specs.Buffer.{Wrote}
@@ -18,8 +19,6 @@ use Rattle.cascade.specs.Survey.{marks_of, survey_of}
 use Rattle.values.specs.declared.Stage.{Stage}
 use Rattle.cascade.specs.declared.Survey.{Survey}
 use Rattle.cascade.specs.declared.Expressions.{Expressions}
-use Rattle.cascade.specs.declared.Decoded.{Decoded}
-use Rattle.cascade.specs.declared.Decoded.TheVariants.{Writes, Bump}
 use Rattle.cascade.proofs.Active.{here, past}
 use Rattle.shader.specs.Lookups.{lookup_of, before_of, sample_text}
 use Rattle.shader.specs.Order.{Precedes}
@@ -110,11 +109,11 @@ unfolding survey_of
 survey_live l u e = rw e
 
 -- the line of a decoded stage: none of a bump stage
-pub no_line : {out : List ℕ} {p : ℕ} (alive : Bool) (i : ℕ) (s : Stage) {d : Decoded} → d ≡ decode s → d ≡ Bump
+pub no_line : {out : List ℕ} {p : ℕ} (alive : Bool) (i : ℕ) (s : Stage) {d : Option Expressions} → d ≡ decode s → d ≡ None
     → Wrote out p out p (stage_line alive i s (decode s))
 unfolding stage_line
 no_line {out = out} {p = p} alive i s e f = rw (sym e ∙ f) (nothing out p)
 
-pub a_line : {out out' : List ℕ} {p p' : ℕ} (alive : Bool) (i : ℕ) (s : Stage) {d : Decoded} {x : Expressions} → d ≡ decode s → d ≡ Writes x
-    → Wrote out p out' p' (stage_line alive i s (Writes x)) → Wrote out p out' p' (stage_line alive i s (decode s))
+pub a_line : {out out' : List ℕ} {p p' : ℕ} (alive : Bool) (i : ℕ) (s : Stage) {d : Option Expressions} {x : Expressions} → d ≡ decode s → d ≡ Some x
+    → Wrote out p out' p' (stage_line alive i s (Some x)) → Wrote out p out' p' (stage_line alive i s (decode s))
 a_line alive i s e f w = rw (sym e ∙ f) w

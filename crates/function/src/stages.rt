@@ -6,7 +6,6 @@ ghost use Rattle.combiners.specs.Codes.{bit};
 ghost use Rattle.cascade.specs.Keys.{active};
 ghost use Rattle.cascade.specs.Reading.{lookups_of};
 ghost use Rattle.cascade.specs.Survey.{survey_of};
-ghost use Rattle.cascade.specs.declared.Decoded.TheVariants.{Writes};
 ghost use Rattle.shader.specs.Lookups.{lookup_of, before_of, sample_text};
 ghost use Rattle.shader.specs.Order.{Precedes};
 ghost use Rattle.shader.specs.Output.{lod_bias};
@@ -18,7 +17,7 @@ use bumps::put_sample;
 use cascade::decode::decode;
 use cascade::keys::{is_bump, textured, to_temp};
 use cascade::reading::{is_lined, is_luminance};
-use cascade::{Decoded, Expressions, Survey};
+use cascade::{Expressions, Survey};
 use expressions::line::put_line;
 use shader::Before;
 use values::{Key, Stage, Variant};
@@ -77,7 +76,7 @@ fn put_marked(
 // The line of stage i, where it has one.
 fn put_stage_line(out: &mut [u8], at: usize, alive: bool, s: Stage, e: Expressions, i: u8) -> usize
     requires { i < 8 }
-    ensures { Wrote out.old at out.new result (stage_line alive i s (Writes e)) }
+    ensures { Wrote out.old at out.new result (stage_line alive i s (Some e)) }
 {
     if is_lined(alive, s) {
         return put_line(out, at, e, i, textured(s), to_temp(s));
@@ -107,8 +106,7 @@ pub(crate) fn put_stages(out: &mut [u8], at: usize, k: Key, v: Variant, u: Surve
         marks = marks / 2;
         before = before_of(j, s);
         i += 1;
-        let d = decode(s);
-        let Decoded::Writes(e) = d else {
+        let Some(e) = decode(s) else {
             continue;
         };
         p = put_stage_line(out, p, alive, s, e, j);

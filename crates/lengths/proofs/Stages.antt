@@ -7,13 +7,13 @@ use mathlib.Core.List.{List, [], ◌∷◌}
 use native.Mathlib.Omega.{arith}
 use native.Mathlib.Nat.{le_trans}
 use lib.ListN.{length}
+use Rattle.std.specs.Prelude.{Some, None}
 use Rattle.text.specs.Text.{size}
 use Rattle.text.proofs.Size.{size_most}
 use Rattle.combiners.specs.Codes.{bit}
 use Rattle.cascade.specs.Keys.{textured, to_temp, bump}
 use Rattle.cascade.specs.Reading.{reads_temp, reads_texel, live, lined, marked, luminance, reads_bump_env}
 use Rattle.cascade.specs.Stages.{expression_of, alpha_of, decode, line_text}
-use Rattle.cascade.specs.declared.Decoded.TheVariants.{Writes, Bump}
 use Rattle.shader.specs.Lookups.{lookup_of, before_of, sample_text}
 use Rattle.shader.specs.Output.{lod_bias}
 use Rattle.shader.specs.Whole.{texture_parameter, sampler_parameter, samplers_text, stage_line, stages_text}
@@ -35,7 +35,7 @@ line_size_lem : (alive : Bool) (i : ℕ) (s : Stage) → size (stage_line alive 
 unfolding stage_line decode
 line_size_lem alive i s = go (bump s)
   where
-    go : (b : Bool) → size (stage_line alive i s (cond b Bump (Writes (record { colour = expression_of (textured s) s.colour; alpha = alpha_of s }))))
+    go : (b : Bool) → size (stage_line alive i s (cond b None (Some (record { colour = expression_of (textured s) s.colour; alpha = alpha_of s }))))
         ≡ cond (not b && lined alive s) (line_size i s) 0
     go true = refl
     go false = refl

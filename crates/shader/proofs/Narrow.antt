@@ -5,6 +5,7 @@ use mathlib.Core.Bool.{Bool, true, false, not, ◌||◌, cond}
 use mathlib.Core.Path.{◌≡◌, refl, ap, ◌∙◌}
 use mathlib.Core.List.{List, [], ◌∷◌, map}
 use lib.Dec.{T, eqb}
+use Rattle.std.specs.Prelude.{Option, Some, None}
 use Rattle.combiners.specs.Codes.{disable}
 use Rattle.combiners.specs.Combiners.{three_operands}
 use Rattle.combiners.specs.Warnings.{Cause, op_cause, selector_cause, modifier_cause, applied_reports}
@@ -14,8 +15,7 @@ use Rattle.cascade.specs.Stages.{expression_of, alpha_of, decode}
 use Rattle.cascade.specs.Reading.{keeps, alpha_written, reads_temp, reads_texel, live, lined, marked, lookups_of, reads_bump_env}
 use Rattle.cascade.specs.Warnings.{applies_colour, applies_alpha, reports_from, warned_stages}
 use Rattle.cascade.proofs.Narrowing.{narrow_op_lem}
-use Rattle.cascade.specs.declared.Decoded.{Decoded}
-use Rattle.cascade.specs.declared.Decoded.TheVariants.{Writes, Bump}
+use Rattle.cascade.specs.declared.Expressions.{Expressions}
 use Rattle.values.specs.Flags.{stage_flags_bad}
 use Rattle.values.specs.Kinds.{seven_bytes, narrow}
 use Rattle.values.specs.declared.Combiner.{Combiner}
@@ -41,10 +41,10 @@ AllOfTwo (s ∷ r) = OfTwo s.colour × OfTwo s.alpha × AllOfTwo r
 -- ---------------------------------------------------------------- stages
 
 -- of a stage beside what it is decoded to a line has the flags alone
-decoded_alike : (alive : Bool) (i : ℕ) (s : Stage) (d : Decoded) → stage_line alive i (seven_bytes s) d ≡ stage_line alive i s d
+decoded_alike : (alive : Bool) (i : ℕ) (s : Stage) (d : Option Expressions) → stage_line alive i (seven_bytes s) d ≡ stage_line alive i s d
 unfolding stage_line lined
-decoded_alike alive i s (Writes e) = refl
-decoded_alike alive i s Bump = refl
+decoded_alike alive i s (Some e) = refl
+decoded_alike alive i s None = refl
 
 module _ (s : Stage) (h : OfTwo s.colour) (g : OfTwo s.alpha) where
   bump_alike : bump (seven_bytes s) ≡ bump s

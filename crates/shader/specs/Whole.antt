@@ -1,5 +1,5 @@
 -- The whole text: what stands before the function, its signature, its locals and stages, its output.
-use Rattle.std.specs.Prelude.{ℕ, suc, Bool, List, [], ◌∷◌}
+use Rattle.std.specs.Prelude.{ℕ, suc, Bool, Option, Some, None, List, [], ◌∷◌}
 use Rattle.text.specs.Text.{Text, raw, lit, none, ◌⊕◌, pick, when, digit}
 use Rattle.text.specs.Format.{format, ◌≔◌}
 use Rattle.combiners.specs.Codes.{bit}
@@ -9,8 +9,7 @@ use Rattle.cascade.specs.Reading.{live, lined, marked, reads_bump_env}
 use Rattle.values.specs.Entries.{name_of}
 use Rattle.values.specs.declared.Stage.{Stage}
 use Rattle.values.specs.declared.Key.{Key}
-use Rattle.cascade.specs.declared.Decoded.{Decoded}
-use Rattle.cascade.specs.declared.Decoded.TheVariants.{Writes, Bump}
+use Rattle.cascade.specs.declared.Expressions.{Expressions}
 use Rattle.shader.specs.Lookups.{lookup_of, texture_type_of, type_text, texture_name, sampler_name, before_of, sample_text}
 use Rattle.shader.specs.Output.{flat_shade, srgb_write, sample_mask, point_sprite, lod_bias, fogged, tested, output_text}
 use Rattle.values.specs.declared.Variant.{Variant}
@@ -90,9 +89,9 @@ sprite_text sprite =
     ⊕ sprite_line 7)
 
 -- the line of stage i, where it has one
-unfoldable pub stage_line : Bool → ℕ → Stage → Decoded → Text
-stage_line alive i s Bump = none
-stage_line alive i s (Writes e) = when (lined alive s) (line_text i (textured s) (to_temp s) e.colour e.alpha)
+unfoldable pub stage_line : Bool → ℕ → Stage → Option Expressions → Text
+stage_line alive i s None = none
+stage_line alive i s (Some e) = when (lined alive s) (line_text i (textured s) (to_temp s) e.colour e.alpha)
 
 -- the lookups and lines of these stages; i is the first one's number, and before what stands before it
 unfoldable pub stages_text : Variant → ℕ → Bool → Before → ℕ → List Stage → Text

@@ -23,7 +23,7 @@ pub loop-i-preserved-in_default : goal.loop-i-preserved-in_default
 loop-i-preserved-in_default c =
     let v = c.loop-i.invariant in
     let m = c.put_marked-w.ensures in
-    let line = no_line c.args.u.live c.loop-i.i _ c.decode-d.ensures c.in_default.is in
+    let line = no_line c.args.u.live c.loop-i.i _ c.decode.ensures c.in_default.is in
     let below : c.loop-i.i < active_count c.args.k.stages = omega (arith, v.count) in
     let turned = stages_turn c.args.v c.args.k.projected c.args.u.live c.args.k.stages _ _ c.loop-i.i _ below v.stage m.wrote line m.lookups_value in
     record { index = omega arith; few = v.few; count = v.count; stage = rw c.before_of-before.ensures turned }
@@ -33,7 +33,7 @@ pub loop-i-preserved : goal.loop-i-preserved
 loop-i-preserved c =
     let v = c.loop-i.invariant in
     let m = c.put_marked-w.ensures in
-    let line = a_line c.args.u.live c.loop-i.i _ c.decode-d.ensures c.in-Writes.is c.put_stage_line-p.ensures in
+    let line = a_line c.args.u.live c.loop-i.i _ c.decode.ensures c.in-Some.is c.put_stage_line-p.ensures in
     let below : c.loop-i.i < active_count c.args.k.stages = omega (arith, v.count) in
     let turned = stages_turn c.args.v c.args.k.projected c.args.u.live c.args.k.stages _ _ c.loop-i.i _ below v.stage m.wrote line m.lookups_value in
     record { index = omega arith; few = v.few; count = v.count; stage = rw c.before_of-before.ensures turned }
