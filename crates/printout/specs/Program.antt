@@ -1,16 +1,15 @@
 -- What the program prints for an input.
-use Rattle.std.specs.Prelude.{ℕ, zero, suc, ◌+◌, cond, List, [], ◌∷◌, ◌++◌, eqb, ltb, length, drop}
+use Rattle.std.specs.Prelude.{ℕ, zero, suc, ◌+◌, cond, List, [], ◌∷◌, ◌++◌, eqb, ltb, length, drop, Result, Ok, Err}
 use Rattle.text.specs.Text.{Text, flat, lit, pick, decimal}
 use Rattle.text.specs.Format.{format, ◌≔◌}
-use Rattle.shader.specs.Results.{text_of}
 use Rattle.values.specs.declared.Emitted.{Emitted}
 use Rattle.values.specs.Refusals.{number_of}
 use Rattle.values.specs.declared.Refusal.{Refusal}
 use Rattle.values.specs.declared.Refusal.TheVariants.{InputTooLong}
-use Rattle.records.specs.Applying.{nothing_held, applied}
+use Rattle.records.specs.Applying.{nothing_held, all_held, text_in, apply_answer, held_after}
 use Rattle.records.specs.declared.Held.{Held}
-use Rattle.records.specs.declared.ApplyAnswer.{ApplyAnswer}
-use Rattle.records.specs.declared.ApplyAnswer.TheVariants as answer
+use Rattle.records.specs.declared.Applied.{Applied}
+use Rattle.records.specs.declared.Applied.TheVariants.{Replaced, Text as Emits}
 
 -- 01: "Program `ffps` reads standard input into a buffer of 32,768 bytes and has one of 16,384 for text."
 abbrev pub input_room : ℕ
@@ -57,10 +56,10 @@ abbrev pub line_after : List ℕ → List ℕ → List ℕ
 line_after line out = line ++ drop (length line) out
 
 -- what is printed for the answer to the record at offset p, h being held: go on m bytes further, with so many texts more, or stop
-unfoldable pub printed : ApplyAnswer → ℕ → Held → (ℕ → ℕ → List ℕ) → List ℕ
-printed (answer.Replaced m) p h go_on = go_on m 0
-printed (answer.Text m e) p h go_on = emit_line e ++ (text_of h.key h.variant h.entry ++ go_on m 1)
-printed (answer.Refused c) p h go_on = refused_line c p
+unfoldable pub printed : Result Applied Refusal → ℕ → Held → (ℕ → ℕ → List ℕ) → List ℕ
+printed (Ok (Replaced m)) p h go_on = go_on m 0
+printed (Ok (Emits m e)) p h go_on = emit_line e ++ (text_in (all_held h) [] ++ go_on m 1)
+printed (Err c) p h go_on = refused_line c p
 
 -- What is printed for the bytes b from offset p on, behind n texts. 01: "the program stops with `end` when its input is used up." Each record
 -- takes a byte at least, so there are as many turns as bytes, or more.
@@ -68,7 +67,7 @@ unfoldable pub printed_from : ℕ → ℕ → ℕ → Held → List ℕ → List
 printed_from zero p n h b = end_line n
 printed_from (suc turns) p n h b =
     cond (eqb (length b) 0) (end_line n)
-    (printed (applied h b text_room).answer p h (λ m more. printed_from turns (p + m) (n + more) (applied h b text_room).held (drop m b)))
+    (printed (apply_answer h b text_room) p h (λ m more. printed_from turns (p + m) (n + more) (held_after h b) (drop m b)))
 
 -- 9: "program input above 32,768 bytes": "the line", "no record read"
 unfoldable pub program_output : List ℕ → List ℕ

@@ -3,12 +3,12 @@
 
 pub mod lines;
 
-ghost use Rattle.std.specs.Prelude.{◌+◌, ◌<◌, ◌≤◌, ◌^◌, ◌≡◌, false, length};
+ghost use Rattle.std.specs.Prelude.{◌+◌, ◌<◌, ◌≤◌, ◌^◌, ◌≡◌, None, length};
 ghost use Rattle.printout.specs.Program.{line_after};
 ghost use Rattle.printout.specs.Steps.{begun, onwards, record_step, step_of, stepped};
 
 use lines::{LINE_LENGTH, put_emit_line, put_end_line, put_refused_line};
-use records::{ApplyAnswer, Held, apply, nothing_held};
+use records::{Applied, Held};
 
 // The most bytes of input that the program takes.
 pub const INPUT_LENGTH: usize = 32768;
@@ -24,35 +24,32 @@ pub struct Session {
     pub held: Held,
 }
 
-// What a step prints: the front of the line, then the front of the text, each of this length; and where there is more to print, the session that
-// prints it.
+// What a step prints: the front of the line, then the front of the text, each of this length; and the session that prints what is behind it, if
+// anything is.
 #[derive(Clone, Copy)]
 pub struct Printing {
     pub line: usize,
     pub text: usize,
-    pub more: bool,
-    pub next: Session,
+    pub next: Option<Session>,
 }
 
 pub fn begin() -> Session
     ensures { result ≡ begun }
 {
-    let held = nothing_held();
     Session {
         at: 0,
         texts: 0,
-        held: held,
+        held: Held::new(),
     }
 }
 
-fn last(line: usize, session: Session) -> Printing
-    ensures { result ≡ stepped line 0 false session }
+fn last(line: usize) -> Printing
+    ensures { result ≡ stepped line 0 None }
 {
     Printing {
         line: line,
         text: 0,
-        more: false,
-        next: session,
+        next: None,
     }
 }
 
@@ -81,35 +78,20 @@ fn step_record(
     ensures line { line.new ≡ line_after (record_step session input.now text.old).line line.old }
     ensures text { text.new ≡ (record_step session input.now text.old).text }
 {
-    let at = session.at;
-    let held = session.held;
-    let applied = apply(held, &input[at..], text);
-    let answer = applied.answer;
-    let after = applied.held;
+    let mut held = session.held;
+    let answer = held.apply(&input[session.at..], text);
     match answer {
-        ApplyAnswer::Refused(refusal) => {
-            let n = put_refused_line(line, refusal, at);
-            last(n, session)
-        }
-        ApplyAnswer::Replaced(took) => {
-            let next = on(session, took, 0, after);
-            Printing {
-                line: 0,
-                text: 0,
-                more: true,
-                next: next,
-            }
-        }
-        ApplyAnswer::Text(took, emitted) => {
-            let next = on(session, took, 1, after);
-            let n = put_emit_line(line, emitted);
-            Printing {
-                line: n,
-                text: emitted.length,
-                more: true,
-                next: next,
-            }
-        }
+        Err(refusal) => last(put_refused_line(line, refusal, session.at)),
+        Ok(Applied::Replaced(took)) => Printing {
+            line: 0,
+            text: 0,
+            next: Some(on(session, took, 0, held)),
+        },
+        Ok(Applied::Text(took, emitted)) => Printing {
+            line: put_emit_line(line, emitted),
+            text: emitted.length,
+            next: Some(on(session, took, 1, held)),
+        },
     }
 }
 
@@ -126,14 +108,13 @@ pub fn step(
     ensures text { text.new ≡ (step_of session input.now text.old).text }
 {
     if input.len() < session.at {
-        return last(0, session);
+        return last(0);
     }
     if session.at < session.texts {
-        return last(0, session);
+        return last(0);
     }
     if session.at == input.len() {
-        let n = put_end_line(line, session.texts);
-        return last(n, session);
+        return last(put_end_line(line, session.texts));
     }
     step_record(session, input, line, text)
 }

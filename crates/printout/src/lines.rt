@@ -5,7 +5,7 @@ ghost use Rattle.text.specs.Buffer.{Wrote};
 ghost use Rattle.printout.specs.Program.{emit_line, end_line, line_after, refused_line, warnings_text};
 
 use text::{put, put_decimal, put_digit, put_either};
-use values::{Emitted, Refusal, number};
+use values::{Emitted, Refusal};
 
 // No line is longer.
 pub const LINE_LENGTH: usize = 160;
@@ -74,7 +74,7 @@ pub fn put_refused_line(line: &mut [u8; LINE_LENGTH], refusal: Refusal, place: u
     ensures line { line.new ≡ line_after (refused_line refusal place) line.old }
 {
     let a = put(line, 0, b"refused ");
-    let b = put_decimal(line, a, number(refusal));
+    let b = put_decimal(line, a, u8::from(refusal));
     let c = put(line, b, b" at ");
     let d = put_number(line, c, place);
     put(line, d, b"\n")
