@@ -9,7 +9,9 @@ use lib.Dec.{eqb, leb}
 use lib.ListN.{length, get_or}
 use Rattle.values.specs.declared.Stage.{Stage}
 use Rattle.values.specs.Flags.{stage_flags_bad}
-use Rattle.states.specs.Types.{among, is_type, takes, state_types}
+use Rattle.states.specs.declared.state.StageState.{StageState}
+use Rattle.states.specs.declared.state.StageState.TheVariants as state
+use Rattle.states.specs.Types.{among, is_type, sets_arg0, state_number, takes, state_types}
 use Rattle.states.specs.States.{set_stage, stage_state, stage_states, value_of}
 use Rattle.states.proofs.Bits.{flags_after}
 
@@ -72,3 +74,35 @@ module _ (t v : ℕ) where
   pub stage_after : (s : Stage) → is_type t ≡ true → takes t v ≡ true → (u : ℕ) → stage_state u (set_stage t v s) ≡ cond (eqb t u) v (stage_state u s)
   unfolding stage_state
   stage_after s h k u = ap (value_of u) (rows s k) ∙ found h u (stage_states s) refl
+
+-- a number that is no type leaves a stage, and sets no argument 0
+pub other_type : (t v : ℕ) (s : Stage) → is_type t ≡ false → (set_stage t v s ≡ s) × (sets_arg0 t ≡ false)
+unfolding set_stage
+other_type t v s e =
+    let a = neither (eqb t 1) _ e in
+    let b = neither (eqb t 2) _ a.1 in
+    let c = neither (eqb t 3) _ b.1 in
+    let d = neither (eqb t 4) _ c.1 in
+    let f = neither (eqb t 5) _ d.1 in
+    let g = neither (eqb t 6) _ f.1 in
+    let h = neither (eqb t 28) _ g.1 in
+    let i = neither (eqb t 0) _ h.1 in
+    let j = neither (eqb t 26) _ i.1 in
+    let k = neither (eqb t 27) _ j.1 in
+    rw (a.0, b.0, c.0, d.0, f.0, g.0, h.0, i.0, j.0, k.0) (refl, refl)
+
+-- the number of a state is a type
+pub named_type : (n : ℕ) (s : StageState) → state_number s ≡ n → is_type n ≡ true
+named_type n s e = rw (← e) (go s)
+  where
+    go : (s : StageState) → is_type (state_number s) ≡ true
+    go state.ColorOp = refl
+    go state.ColorArg1 = refl
+    go state.ColorArg2 = refl
+    go state.AlphaOp = refl
+    go state.AlphaArg1 = refl
+    go state.AlphaArg2 = refl
+    go state.ColorArg0 = refl
+    go state.AlphaArg0 = refl
+    go state.ResultArg = refl
+    go state.TextureBound = refl

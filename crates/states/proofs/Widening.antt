@@ -1,10 +1,11 @@
 -- A key of either kind as one of kind 6: its stages, and that a write does to them what it does to the key.
-use Prim.Native.Nat.{ℕ, zero, suc}
+use Prim.Native.Nat.{ℕ, zero, suc, ◌<◌}
 use mathlib.Core.Path.{◌≡◌, refl, sym, ap, ◌∙◌}
 use mathlib.Core.Bool.{Bool, true, false, ◌||◌, cond}
 use mathlib.Core.List.{List, [], ◌∷◌, map}
+use native.Mathlib.Omega.{arith}
 use lib.Dec.{eqb}
-use lib.ListN.{length, set, length-map, get_or-map}
+use lib.ListN.{length, get_or, set, length-map, get_or-map}
 use Rattle.values.specs.declared.Stage.{Stage}
 use Rattle.values.specs.declared.Key.{Key}
 use Rattle.states.specs.Types.{alpha_arg0, colour_arg0, sets_arg0}
@@ -67,3 +68,11 @@ wide_after i t v k = go (sets_arg0 t) k.wide refl
         ∙ ap (set (map seven_bytes k.stages) i)
         (seven_after t v (stage_at i k.stages) e
         ∙ ap (set_stage t v) (sym (get_or-map seven_bytes k.stages i (default_stage 1 1))))
+
+-- a list that has, at each index, what f makes of the element there
+pub mapped : (f : Stage → Stage) (l m : List Stage) → length m ≡ length l → ((i : ℕ) → i < length l → get_or m i (default_stage 1 1) ≡ f (get_or l i (default_stage 1 1)))
+    → m ≡ map f l
+mapped f [] [] e h = refl
+mapped f [] (s ∷ m) e h = absurd (omega arith)
+mapped f (r ∷ l) [] e h = absurd (omega arith)
+mapped f (r ∷ l) (s ∷ m) e h = let first = h zero (omega arith) in rw (first, mapped f l m (omega arith) (λ i b. h (suc i) (omega arith)))

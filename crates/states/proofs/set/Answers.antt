@@ -1,8 +1,8 @@
 -- A write that is not refused is accepted, so its stage is one of the eight and its value a byte; a refused one leaves the key.
-use Rattle.std.proofs.Common.{arith, rules, ◌≡◌, length, true, false, sym, ◌∙◌}
+use Rattle.std.proofs.Common.{arith, rules, ◌≡◌, length, true, false}
 use Rattle.std.specs.Prelude.{is_err}
 use Rattle.states.specs.States.{default_stage, set_state, stages_for}
-use Rattle.states.specs.Writes.{accepted, checked_write, write_applied}
+use Rattle.states.specs.Writes.{write_applied}
 use Rattle.states.proofs.Stages.{get_or_there}
 use Rattle.states.proofs.Widening.{for_length}
 use Rattle.states.proofs.Accepted.{free, is_accepted, is_refused, takes_byte}

@@ -1,32 +1,14 @@
--- A key of kind 6 keeps its stages; in another the loop takes each for what seven bytes say of it.
-use Rattle.std.proofs.Common.{arith, rules, ◌<◌, length, refl, ◌∙◌}
+-- The stages of another kind are those that seven bytes say of each.
+use Rattle.std.proofs.Common.{arith, rules, ◌<◌, ℕ, length}
 use Rattle.values.specs.Kinds.{seven_bytes}
-use Rattle.values.proofs.Mapped.{first_mapped, all_mapped, next_mapped}
-use Rattle.states.specs.States.{wide_stages}
+use Rattle.states.specs.States.{wide_stages, default_stage}
+use Rattle.states.proofs.Widening.{mapped}
 use Rattle.states.proofs.wide_stages.Goals as goal
 
-pub returns-then-key : goal.returns-then-key
+pub returns-else-key : goal.returns-else-key
 unfolding wide_stages
-returns-then-key c = rw c.if-key.true
-
-pub loop-i-init : goal.loop-i-init
-unfolding first_mapped
-loop-i-init c = record { index = omega arith; eight = search rules; mapped = refl; narrow = c.if-key.false }
-
-pub loop-i-preserved : goal.loop-i-preserved
-loop-i-preserved c =
-    let v = c.loop-i.invariant in
-    let l = c.args.key.stages in
-    let h : c.loop-i.i < length l = omega arith in
-    record {
-      index = omega arith;
-      eight = v.eight;
-      mapped = rw (c.seven_bytes.ensures, v.mapped) (next_mapped seven_bytes l c.loop-i.i _ h);
-      narrow = v.narrow;
-    }
-
-pub returns : goal.returns
-unfolding wide_stages
-returns c =
-    let v = c.loop-i.invariant in
-    rw v.narrow (v.mapped ∙ all_mapped seven_bytes c.loop-i.i c.args.key.stages (omega arith))
+returns-else-key c =
+    rw c.if-key.false
+    (mapped seven_bytes c.args.key.stages c.map.result (search rules)
+    (λ (i : ℕ) (h : i < length c.args.key.stages).
+    let e = c.map.ensures.items.at i (default_stage 1 1) (default_stage 1 1) (omega arith) in let f = e.2 in search rules))
