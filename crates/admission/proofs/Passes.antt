@@ -11,7 +11,7 @@ use lib.Seq.{split_at}
 use Rattle.values.specs.Entries.{all, starts_name, continues_name, entry_good}
 use Rattle.values.specs.declared.Entry.{Entry}
 use Rattle.admission.specs.Pass.{right, started, pass_stepped, possible_in, passed_over, possible_after, body_of, Possible}
-use Rattle.admission.specs.declared.Pass.{Pass}
+use Rattle.admission.specs.declared.entry.Pass.{Pass}
 
 -- one test where b holds, another where it does not
 pub chosen : (b x y : Bool) → ((b && x) || (not b && y)) ≡ cond b x y

@@ -9,18 +9,12 @@ use Rattle.text.specs.Text.{bytes}
 use Rattle.text.specs.Format.{same}
 use Rattle.values.specs.Listed.{singles, families, Name, name, stage_in, in_families, in_list}
 use Rattle.values.specs.Words.{others, one_of, is_listed, reserved_word}
-use Rattle.admission.specs.Patterns.{fits_byte, fits_front, fits_one_of}
+use Rattle.std.specs.List.{list_any}
+use Rattle.admission.specs.Patterns.{fits, fits_byte}
 
--- a word fits a pattern of its length
-abbrev fits : List ℕ → List ℕ → Bool
-fits [] [] = true
-fits [] (c ∷ w) = false
-fits (p ∷ s) [] = false
-fits (p ∷ s) (c ∷ w) = fits_byte p c && fits s w
-
+-- a word fits one of some patterns
 abbrev fits_any : List (List ℕ) → List ℕ → Bool
-fits_any [] w = false
-fits_any (p ∷ r) w = fits p w || fits_any r w
+fits_any l w = list_any (λ p. fits p w) l
 
 abbrev words_of : List String → List (List ℕ)
 words_of [] = []
@@ -133,67 +127,32 @@ reserved_patterns w =
       fits_any-append (words_of singles) (families_of families) w,
     )
 
--- the patterns of a length, behind one another
+-- the patterns of a length
 abbrev pub of_length : ℕ → List (List ℕ) → List (List ℕ)
 of_length n [] = []
 of_length n (p ∷ r) = cond (eqb (length p) n) (p ∷ of_length n r) (of_length n r)
 
-abbrev pub joined : List (List ℕ) → List ℕ
-joined [] = []
-joined (p ∷ r) = p ++ joined r
-
-another_length : (p w : List ℕ) → (length p ≡ length w → ⊥) → fits p w ≡ false
+pub another_length : (p w : List ℕ) → (length p ≡ length w → ⊥) → fits p w ≡ false
 another_length [] [] h = absurd (h refl)
 another_length [] (c ∷ w) h = refl
 another_length (x ∷ p) [] h = refl
 another_length (x ∷ p) (c ∷ w) h = rw (another_length p w (λ e. h (ap suc e))) (and-false (fits_byte x c))
 
-pub fits_none : (p : List ℕ) → fits_front p [] ≡ true
-unfolding fits_front
-fits_none [] = refl
-fits_none (x ∷ p) = refl
-
-pub too_short : (p w : List ℕ) → length p < length w → fits_front p w ≡ false
-unfolding fits_front
-too_short p [] h = absurd (omega arith)
-too_short [] (c ∷ w) h = refl
-too_short (x ∷ p) (c ∷ w) h = rw (too_short p w (omega arith)) (and-false (fits_byte x c))
-
-at_front_lem : (p w r : List ℕ) → length p ≡ length w → fits_front (p ++ r) w ≡ fits p w
-unfolding fits_front
-at_front_lem [] [] r h = fits_none r
-at_front_lem [] (c ∷ w) r h = absurd (omega arith)
-at_front_lem (x ∷ p) [] r h = absurd (omega arith)
-at_front_lem (x ∷ p) (c ∷ w) r h = rw (at_front_lem p w r (omega arith))
-
-one_by_one : (ps : List (List ℕ)) (w : List ℕ) → fits_one_of (length (of_length (length w) ps)) (joined (of_length (length w) ps)) w ≡ fits_any ps w
-unfolding fits_one_of
+one_by_one : (ps : List (List ℕ)) (w : List ℕ) → fits_any (of_length (length w) ps) w ≡ fits_any ps w
 one_by_one [] w = refl
 one_by_one (p ∷ r) w = by (eqb (length p) (length w)) refl (one_by_one r w)
   where
     rest : List (List ℕ)
     rest = of_length (length w) r
 
-    by : (b : Bool) → eqb (length p) (length w) ≡ b → fits_one_of (length rest) (joined rest) w ≡ fits_any r w
-        → fits_one_of (length (cond b (p ∷ rest) rest)) (joined (cond b (p ∷ rest) rest)) w ≡ (fits p w || fits_any r w)
+    by : (b : Bool) → eqb (length p) (length w) ≡ b → fits_any rest w ≡ fits_any r w → fits_any (cond b (p ∷ rest) rest) w ≡ (fits p w || fits_any r w)
     by false e h = rw (another_length p w (eqb-false (length p) (length w) e)) h
-    by true e h =
-        let n = eqb-true (length p) (length w) e in
-        let d : drop (length w) (p ++ joined rest) ≡ joined rest = drop_at p (joined rest) (length w) n in
-        rw (at_front_lem p w (joined rest) n, d, h)
+    by true e h = rw h
 
--- behind patterns that are too short stands none
-pub none_behind : (k : ℕ) (p w : List ℕ) → length p < length w → fits_one_of k (drop (length w) p) w ≡ false
-unfolding fits_one_of
-none_behind zero p w h = refl
-none_behind (suc k) p w h =
-    let s : length p ≤ length w = omega arith in
-    rw (drop_of_length-le p s, too_short [] w (omega arith)) (none_behind k [] w (omega arith))
-
-pub by_length : (w : List ℕ) → fits_one_of (length (of_length (length w) patterns)) (joined (of_length (length w) patterns)) w ≡ reserved_word w
+pub by_length : (w : List ℕ) → fits_any (of_length (length w) patterns) w ≡ reserved_word w
 by_length w = one_by_one patterns w ∙ sym (reserved_patterns w)
 
-pub of_length_lem : (n : ℕ) (w : List ℕ) → length w ≡ n → fits_one_of (length (of_length n patterns)) (joined (of_length n patterns)) w ≡ reserved_word w
+pub of_length_lem : (n : ℕ) (w : List ℕ) → length w ≡ n → fits_any (of_length n patterns) w ≡ reserved_word w
 of_length_lem n w h = rw h at (by_length w)
 
 -- the lengths of the words, the last of them first, and a length that is none of them
@@ -228,8 +187,7 @@ none_of_length : (l : List ℕ) (ps : List (List ℕ)) (n : ℕ) → all_among l
 none_of_length l [] n h a = refl
 none_of_length l (p ∷ r) n h a = let e = both (among l (length p)) (all_among l r) h in rw (avoided l (length p) n e.0 a) (none_of_length l r n e.1 a)
 
-none_left : (ps : List (List ℕ)) (w : List ℕ) {b : Bool} → ps ≡ [] → fits_one_of (length ps) (joined ps) w ≡ b → false ≡ b
-unfolding fits_one_of
+none_left : (ps : List (List ℕ)) (w : List ℕ) {b : Bool} → ps ≡ [] → fits_any ps w ≡ b → false ≡ b
 none_left [] w e h = h
 none_left (p ∷ ps) w e h = absurd (let o : ◌≡◌ {A = ℕ} 0 1 = cc in omega arith)
 

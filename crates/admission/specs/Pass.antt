@@ -3,7 +3,7 @@
 use Rattle.std.specs.Prelude.{◌≡◌, ℕ, ◌+◌, ◌%◌, Bool, true, cond, ◌&&◌, List, [], ◌∷◌, ◌++◌, length, ◌==◌, nat_le}
 use Rattle.values.specs.Entries.{starts_name, continues_name, entry_good}
 use Rattle.values.specs.declared.Entry.{Entry}
-use Rattle.admission.specs.declared.Pass.{Pass}
+use Rattle.admission.specs.declared.entry.Pass.{Pass}
 
 -- The byte c may be byte number i of a body whose byte 0 is len: a length of 1 to 32; the name, which a digit may not begin; zeros. There is no byte
 -- behind number 32.

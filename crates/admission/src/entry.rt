@@ -1,20 +1,52 @@
 //! An entry looked over in one pass, a byte of its body at a time.
-ghost use Rattle.std.specs.Prelude.{◌≡◌, if◌then◌else◌};
+ghost use Rattle.std.specs.Prelude.{◌≡◌};
 ghost use Rattle.values.specs.Entries.{entry_good};
 ghost use Rattle.admission.specs.Pass.{possible_in, right, started, pass_stepped};
 
-use crate::{Pass, between, continues_name, starts_name};
+use crate::{between, continues_name, starts_name};
+use std::hint::select_unpredictable;
 use values::Entry;
 
 const NAME_BYTES: u8 = 32;
 
-pub fn start() -> Pass
-    ensures { result ≡ started }
-{
-    Pass {
-        taken: 0,
-        length: 0,
-        wrong: 0,
+// Where a pass over an entry's body stands: how many bytes were taken, the length byte, and 1 once a byte was wrong. Callers keep the three numbers
+// between steps, and may hand in any: so `wrong` is a number too, and what it was is what a right byte leaves.
+#[derive(Clone, Copy)]
+pub struct Pass {
+    pub taken: u8,
+    pub length: u8,
+    pub wrong: u8,
+}
+
+impl Pass {
+    // Before the first byte.
+    pub fn new() -> Pass
+        ensures { result ≡ started }
+    {
+        Pass {
+            taken: 0,
+            length: 0,
+            wrong: 0,
+        }
+    }
+
+    // Behind one byte more.
+    pub fn step(self, byte: u8) -> Pass
+        ensures { result ≡ pass_stepped self byte }
+    {
+        let right = right_at(self.taken, self.length, byte);
+        Pass {
+            taken: self.taken.wrapping_add(1),
+            length: select_unpredictable(self.taken == 0, byte, self.length),
+            wrong: select_unpredictable(right, self.wrong, 1),
+        }
+    }
+
+    // Whether some body that begins with the bytes taken is an entry's.
+    pub fn is_possible(self) -> bool
+        ensures { result ≡ possible_in self }
+    {
+        self.wrong == 0
     }
 }
 
@@ -29,51 +61,15 @@ fn right_at(at: u8, length: u8, c: u8) -> bool
     (at == 0) & between(1, c, NAME_BYTES) | (at != 0) & name
 }
 
-fn either(first: bool, a: u8, b: u8) -> u8
-    ensures { result ≡ (if first then a else b) }
-{
-    if first { a } else { b }
-}
-
-// The state behind one byte more.
-pub fn step(pass: Pass, byte: u8) -> Pass
-    ensures { result ≡ pass_stepped pass byte }
-{
-    let taken = std::num::wrapping_add_u8(pass.taken, 1);
-    let length = either(pass.taken == 0, byte, pass.length);
-    let right = right_at(pass.taken, pass.length, byte);
-    let wrong = either(right, pass.wrong, 1);
-    Pass {
-        taken: taken,
-        length: length,
-        wrong: wrong,
-    }
-}
-
-// Whether some body that begins with the bytes taken is an entry's.
-pub fn possible(pass: Pass) -> bool
-    ensures { result ≡ possible_in pass }
-{
-    pass.wrong == 0
-}
-
 // Whether a byte was wrong is kept beside the state, so that no step waits for the one before it and the 32 bytes of a name are tested together.
 pub fn entry_good(entry: Entry) -> bool
     ensures { result ≡ entry_good entry }
 {
-    let name = entry.name;
-    let mut pass = step(start(), entry.len);
-    let mut good = possible(pass);
-    let mut i = 0;
-    while i < NAME_BYTES as usize {
-        let cleared = Pass {
-            taken: pass.taken,
-            length: pass.length,
-            wrong: 0,
-        };
-        pass = step(cleared, name[i]);
-        good = good & possible(pass);
-        i += 1;
+    let mut pass = Pass::new().step(entry.len);
+    let mut good = pass.is_possible();
+    for byte in entry.name {
+        pass = Pass { wrong: 0, ..pass }.step(byte);
+        good &= pass.is_possible();
     }
     good
 }

@@ -8,37 +8,21 @@ ghost use Rattle.std.specs.Prelude.{◌≡◌, ◌&&◌, nat_le};
 ghost use Rattle.values.specs.Flags.{stage_flags_bad, variant_flags_bad};
 ghost use Rattle.values.specs.Entries.{continues_name, is_letter, starts_name};
 
-pub use entry::entry_good;
+pub use entry::{Pass, entry_good};
 use values::{Key, Variant};
 pub use words::entry_reserved;
-
-const STAGES: usize = 8;
 
 // The lowest flag bit without a meaning: bit 2 of a stage, bit 6 of a variant.
 const UNUSED_STAGE_FLAG: u8 = 4;
 
 const UNUSED_VARIANT_FLAG: u8 = 64;
 
-// Where a pass over an entry's body stands: how many bytes were taken, the length byte, and 1 once a byte was wrong.
-#[derive(Clone, Copy)]
-pub struct Pass {
-    pub taken: u8,
-    pub length: u8,
-    pub wrong: u8,
-}
-
 pub fn stage_flags_bad(key: Key) -> bool
     ensures { result ≡ stage_flags_bad key.stages }
 {
-    let mut i = 0;
-    while i < STAGES {
-        let s = key.stages[i];
-        if UNUSED_STAGE_FLAG <= s.flags {
-            return true;
-        }
-        i += 1;
-    }
-    false
+    key.stages
+        .iter()
+        .any(|stage| UNUSED_STAGE_FLAG <= stage.flags)
 }
 
 pub fn variant_flags_bad(variant: Variant) -> bool

@@ -1,7 +1,8 @@
 //! Words that no entry may be. An everyday name is told from them by its length and its first bytes.
-ghost use Rattle.std.specs.Prelude.{◌≡◌};
+ghost use Rattle.std.specs.Prelude.{◌≡◌, length};
+ghost use Rattle.std.specs.List.{list_any};
 ghost use Rattle.values.specs.Words.{entry_reserved, reserved_word};
-ghost use Rattle.admission.specs.Patterns.{fits_byte, fits_front, fits_one_of};
+ghost use Rattle.admission.specs.Patterns.{fits, fits_byte};
 
 use crate::between;
 use values::Entry;
@@ -12,67 +13,54 @@ fn fits_byte(pattern: u8, c: u8) -> bool
     ((pattern == b'#') & between(b'0', c, b'7')) | ((pattern != b'#') & (pattern == c))
 }
 
-// Whether each byte of a name fits the pattern's byte at its place.
-fn fits_front(patterns: &[u8], name: &[u8]) -> bool
-    ensures { result ≡ fits_front patterns.now name.now }
+// Whether a name is a word in which `#` stands for a digit from 0 to 7.
+fn fits(word: &[u8], name: &[u8]) -> bool
+    ensures { result ≡ fits word.now name.now }
 {
-    if patterns.len() < name.len() {
-        return false;
-    }
-    let mut i = 0;
-    while i < name.len() {
-        if !fits_byte(patterns[i], name[i]) {
-            return false;
-        }
-        i += 1;
-    }
-    true
+    word.len() == name.len() && word.iter().zip(name).all(|(p, c)| fits_byte(*p, *c))
 }
 
-// Whether a name fits one of so many patterns, each as long as the name, which stand behind one another.
-fn fits_one_of(count: u8, patterns: &[u8], name: &[u8]) -> bool
-    ensures { result ≡ fits_one_of count patterns.now name.now }
+fn fits_any(words: &[&[u8]], name: &[u8]) -> bool
+    ensures { result ≡ list_any (λ w. fits w.now name.now) words.now }
 {
-    let n = name.len();
-    let mut at = 0;
-    let mut left = count;
-    while 0 < left {
-        if fits_front(&patterns[at..], name) {
-            return true;
-        }
-        if patterns.len() - at < n {
-            return false;
-        }
-        at += n;
-        left -= 1;
-    }
-    false
+    words.iter().any(|word| fits(word, name))
 }
 
 // The reserved words by their length.
 fn reserved(name: &[u8]) -> bool
     ensures { result ≡ reserved_word name.now }
 {
-    let n = name.len();
-    match n {
-        2 => fits_one_of(4, b"int#s#if", name),
-        3 => fits_one_of(3, b"oC0pc#bc#", name),
-        4 => fits_one_of(4, b"tempps_cmainuint", name),
-        5 => fits_one_of(6, b"fog_cfog_fsamp#proj#metalfloat", name),
-        6 => fits_one_of(
-            10,
-            b"fog_dzvertexkernelstructstaticinlinereturnfloat2float3float4",
+    match name.len() {
+        2 => fits_any(&[b"in", b"t#", b"s#", b"if"], name),
+        3 => fits_any(&[b"oC0", b"pc#", b"bc#"], name),
+        4 => fits_any(&[b"temp", b"ps_c", b"main", b"uint"], name),
+        5 => fits_any(
+            &[b"fog_c", b"fog_f", b"samp#", b"proj#", b"metal", b"float"],
             name,
         ),
-        7 => fits_one_of(3, b"currentFfPsOutsampler", name),
-        8 => fits_one_of(
-            7,
-            b"in_stagefog_databump_envlod_biasVaryingsfragmentconstant",
+        6 => fits_any(
+            &[
+                b"fog_dz", b"vertex", b"kernel", b"struct", b"static", b"inline", b"return",
+                b"float2", b"float3", b"float4",
+            ],
             name,
         ),
-        9 => fits_one_of(2, b"alpha_reffog_range", name),
-        11 => fits_one_of(1, b"point_coord", name),
-        21 => fits_one_of(1, b"mtld3d_linear_to_srgb", name),
+        7 => fits_any(&[b"current", b"FfPsOut", b"sampler"], name),
+        8 => fits_any(
+            &[
+                b"in_stage",
+                b"fog_data",
+                b"bump_env",
+                b"lod_bias",
+                b"Varyings",
+                b"fragment",
+                b"constant",
+            ],
+            name,
+        ),
+        9 => fits_any(&[b"alpha_ref", b"fog_range"], name),
+        11 => fits_any(&[b"point_coord"], name),
+        21 => fits_any(&[b"mtld3d_linear_to_srgb"], name),
         _ => false,
     }
 }
@@ -80,10 +68,6 @@ fn reserved(name: &[u8]) -> bool
 pub fn entry_reserved(entry: Entry) -> bool
     ensures { result ≡ entry_reserved entry }
 {
-    let name = entry.name;
     let n = entry.len as usize;
-    if n <= 32 {
-        return reserved(&name[..n]);
-    }
-    false
+    n <= 32 && reserved(&entry.name[..n])
 }

@@ -4,7 +4,7 @@ use Rattle.std.proofs.Common.{mod-eq_of_lt, add-one, drop_of_length-le, drop-con
 use Rattle.values.specs.declared.Entry.{Entry}
 use Rattle.values.specs.Entries.{entry_good}
 use Rattle.admission.specs.Pass.{right, started, pass_stepped, possible_in}
-use Rattle.admission.specs.declared.Pass.{Pass}
+use Rattle.admission.specs.declared.entry.Pass.{Pass}
 use Rattle.admission.proofs.Passes.{and_assoc, step_on, bytes_good}
 use Rattle.admission.proofs.entry.entry_good.Invariants.{good_with}
 use Rattle.admission.proofs.entry.entry_good.Goals as goal
@@ -17,10 +17,9 @@ judged : (b : Bool) → eqb (cond b 0 1) 0 ≡ b
 judged true = refl
 judged false = refl
 
-module _ (e : Entry) where
-  begun : (p q : Pass) → p ≡ pass_stepped q e.len → q ≡ started → length e.name ≡ 32 → good_with (possible_in p) p e.name ≡ entry_good e
-  unfolding pass_stepped right
-  begun p q f g h = rw (f, g, judged) (bytes_good e.len e.name h)
+begun : (e : Entry) (p q : Pass) → p ≡ pass_stepped q e.len → q ≡ started → length e.name ≡ 32 → good_with (possible_in p) p e.name ≡ entry_good e
+unfolding pass_stepped right
+begun e p q f g h = rw (f, g, judged) (bytes_good e.len e.name h)
 
 one_more : (p : Pass) (c : ℕ) → p.taken < 255 → (pass_stepped p c).taken ≡ p.taken + 1
 unfolding pass_stepped
@@ -36,25 +35,31 @@ judged_all : (good : Bool) (p : Pass) (l : List ℕ) (i : ℕ) → length l ≤ 
 judged_all true p l i h = rw (drop_of_length-le l h)
 judged_all false p l i h = refl
 
-pub loop-i-init : goal.loop-i-init
-loop-i-init c =
-    let n : c.step-pass.result.taken ≡ 1 = rw (c.step-pass.ensures, c.start.ensures) (one_more started _ (omega arith)) in
-    (omega arith, search rules, n, refl)
+pub loop-byte-init : goal.loop-byte-init
+loop-byte-init c =
+    let e = c.args.entry in
+    let whole : length e.name ≡ 32 = search rules in
+    record {
+      whole = whole;
+      taken = rw (c.step-pass.ensures, c.new.ensures) (one_more started e.len (omega arith));
+      judged = rw c.is_possible-good.ensures (begun e _ _ c.step-pass.ensures c.new.ensures whole);
+    }
 
-pub loop-i-preserved : goal.loop-i-preserved
-loop-i-preserved c =
-    let p = c.loop-i.pass in
+pub loop-byte-preserved : goal.loop-byte-preserved
+loop-byte-preserved c =
+    let p = c.loop-byte.pass in
+    let v = c.loop-byte.invariant in
+    let i = c.loop-byte.byte-index in
     let name = c.args.entry.name in
-    let behind : 1 ≤ p.taken = omega (arith, c.loop-i.invariant.2) in
-    let below : p.taken < 255 = omega (arith, c.loop-i.invariant.2) in
-    let more = one_more (cleared p) (get_or name c.loop-i.i 0) below in
-    let n = ap (λ (q : Pass). q.taken) c.step-pass-in-loop-i.ensures ∙ more ∙ ap (λ (t : ℕ). t + 1) c.loop-i.invariant.2 in
-    let on = judged_on c.loop-i.good p _ name c.loop-i.i c.step-pass-in-loop-i.ensures behind below (omega (arith, c.loop-i.invariant.1)) in
-    (omega arith, c.loop-i.invariant.1, n, rw c.possible-good-in-loop-i.ensures (on ∙ c.loop-i.invariant.3))
+    let stepped = c.step-pass-in-loop-byte.ensures in
+    let on = judged_on c.loop-byte.good p _ name i stepped (omega (arith, v.taken)) (omega (arith, v.taken)) (omega (arith, v.whole)) in
+    record {
+      whole = v.whole;
+      taken = ap (λ (q : Pass). q.taken) stepped ∙ one_more (cleared p) (get_or name i 0) (omega (arith, v.taken)) ∙ ap (λ (t : ℕ). t + 1) v.taken;
+      judged = rw c.is_possible-good-in-loop-byte.ensures (on ∙ v.judged);
+    }
 
 pub returns : goal.returns
 returns c =
-    let e = c.args.entry in
-    let all = judged_all c.loop-i.good c.loop-i.pass e.name c.loop-i.i (omega (arith, c.loop-i.invariant.1)) in
-    let first = ap (λ (g : Bool). good_with g c.step-pass.result e.name) c.possible-good.ensures in
-    all ∙ c.loop-i.invariant.3 ∙ first ∙ begun e _ _ c.step-pass.ensures c.start.ensures c.loop-i.invariant.1
+    let v = c.loop-byte.invariant in
+    judged_all c.loop-byte.good c.loop-byte.pass c.args.entry.name c.loop-byte.byte-index (omega (arith, v.whole)) ∙ v.judged

@@ -1,6 +1,7 @@
 -- No byte so far was wrong and those to come are right, from where the state stands, exactly where the entry is good.
-use Rattle.std.proofs.Common.{◌≡◌, ◌+◌, ◌-◌, ◌≤◌, Bool, ◌&&◌, ℕ, List, length, drop}
-use Rattle.admission.specs.declared.Pass.{Pass}
+use Rattle.std.proofs.Common.{◌≡◌, ◌+◌, ◌≤◌, Bool, ◌&&◌, ℕ, List, length, drop}
+use Rattle.values.specs.Entries.{entry_good}
+use Rattle.admission.specs.declared.entry.Pass.{Pass}
 use Rattle.admission.proofs.Passes.{right_from}
 use Rattle.admission.proofs.entry.entry_good.Given as goal
 
@@ -8,9 +9,10 @@ use Rattle.admission.proofs.entry.entry_good.Given as goal
 abbrev pub good_with : Bool → Pass → List ℕ → Bool
 good_with good p l = good && right_from p.taken p.length l
 
-abbrev pub invariant-loop-i : goal.invariant-loop-i
-invariant-loop-i l =
-    (l.i ≤ 32) × (length l.name ≡ 32) × (l.pass.taken ≡ l.i + 1) × (good_with l.good l.pass (drop l.i l.name) ≡ good_with l.initial.good l.initial.pass l.name)
-
-abbrev pub decreases-loop-i : goal.decreases-loop-i
-decreases-loop-i l = 32 - l.i
+abbrev pub invariant-loop-byte : goal.invariant-loop-byte
+invariant-loop-byte l =
+    record {
+      whole : length l.fn.entry.name ≡ 32;
+      taken : l.pass.taken ≡ l.byte-index + 1;
+      judged : good_with l.good l.pass (drop l.byte-index l.fn.entry.name) ≡ entry_good l.fn.entry;
+    }
