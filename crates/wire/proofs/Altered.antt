@@ -22,7 +22,8 @@ use Rattle.wire.specs.Bodies.{body_length, key_kind, stage_size, stage_bytes, st
 use Rattle.wire.specs.Bodies.{stages_from_bytes, key_from_body}
 use Rattle.wire.specs.Reading.{key_number, body_number}
 use Rattle.wire.specs.Altering.{Alterable, body_with}
-use Rattle.wire.proofs.Bodies.{key_again, key_settled, one_more, stage-length, stages_count}
+use Rattle.wire.proofs.Laws.{none_before, one_more}
+use Rattle.wire.proofs.Bodies.{key_again, key_settled, stage-length, stages_count}
 
 -- each of the eight stages stands in a body
 pub stage_within : (wide : Bool) (i : ℕ) → i < 8 → stage_size wide * i + stage_size wide ≤ body_length (key_kind wide)
@@ -35,10 +36,6 @@ record Place (wide : Bool) (l : List Stage) (i : ℕ) : Type 0 where
   behind : List ℕ
   size : length front ≡ stage_size wide * i
   whole : (s : Stage) → stages_bytes wide (set l i s) ≡ front ++ (stage_bytes wide s ++ behind)
-
-none_before : (wide : Bool) → 0 ≡ stage_size wide * 0
-none_before true = refl
-none_before false = refl
 
 place : (wide : Bool) (l : List Stage) (i : ℕ) → i < length l → Place wide l i
 unfolding stages_bytes

@@ -20,46 +20,66 @@ use Rattle.values.specs.declared.StateWrite.{StateWrite}
 use Rattle.values.specs.Kinds.{seven_bytes}
 use Rattle.states.specs.States.{wide_stages}
 use Rattle.states.specs.Writes.{accepted}
-use Rattle.wire.specs.Bodies.{body_length, key_kind, record_length, stage_size, body_bytes, record_bytes}
+use Rattle.wire.specs.Bodies.{kind_of, body_length, key_kind, record_length, stage_size, body_bytes, record_bytes, record_from_body}
 use Rattle.wire.specs.Bodies.{stage_bytes, stages_bytes, key_bytes, variant_bytes, entry_bytes, state_bytes}
 use Rattle.wire.specs.Bodies.{specular_at, specular_byte, stage_from_bytes, stages_from_bytes, key_from_body, variant_from_body, entry_from_body}
 use Rattle.wire.specs.Bodies.{state_from_body}
-use Rattle.wire.specs.Values.{blank_key, blank_entry, key_as, key_record, variant_record, entry_record, emit_record, state_record}
+use Rattle.wire.specs.Values.{key_as, key_record, own}
 use Rattle.wire.specs.declared.Kind.{Kind}
 use Rattle.wire.specs.declared.Kind.TheVariants as kind
 use Rattle.wire.specs.declared.Record.{Record}
+use Rattle.wire.specs.declared.Record.TheVariants as rec
+use Rattle.wire.proofs.Laws.{one_more}
 
 -- what the types say of a record: a key has eight stages, and an entry 32 bytes
-pub record Shaped (r : Record) : Type 0 where
-  pub stages : length r.key.stages ≡ 8
-  pub name : length r.entry.name ≡ 32
+abbrev pub Shaped : Record → Type 0
+Shaped (rec.Key k) = length k.stages ≡ 8
+Shaped (rec.Variant v) = Unit {0}
+Shaped (rec.Entry e) = length e.name ≡ 32
+Shaped rec.Emit = Unit {0}
+Shaped (rec.State w) = Unit {0}
+Shaped (rec.WideKey k) = length k.stages ≡ 8
 
 -- what the types say of lent bytes
 abbrev pub Bytes : List ℕ → Type 0
 Bytes b = (i : ℕ) → get_or b i 0 < 256
 
--- a record's own value is free of the causes 3, 5, 6, 13 and 10 to 12
-abbrev pub Free : Kind → Record → Type 0
-Free kind.Key r = stage_flags_bad r.key.stages ≡ false
-Free kind.Variant r = variant_flags_bad r.variant ≡ false
-Free kind.Entry r = (entry_good r.entry ≡ true) × (entry_reserved r.entry ≡ false)
-Free kind.Emit r = Unit {0}
-Free kind.State r = accepted r.write ≡ true
-Free kind.WideKey r = stage_flags_bad r.key.stages ≡ false
+-- a record's value is free of the causes 3, 5, 6, 13 and 10 to 12
+abbrev pub Free : Record → Type 0
+Free (rec.Key k) = stage_flags_bad k.stages ≡ false
+Free (rec.Variant v) = variant_flags_bad v ≡ false
+Free (rec.Entry e) = (entry_good e ≡ true) × (entry_reserved e ≡ false)
+Free rec.Emit = Unit {0}
+Free (rec.State w) = accepted w ≡ true
+Free (rec.WideKey k) = stage_flags_bad k.stages ≡ false
 
 -- a key's record, of either kind
-pub key_free : (k : Key) → stage_flags_bad k.stages ≡ false → Free (key_kind k.wide) (key_record k)
-key_free k f = go k.wide
-  where
-    go : (wide : Bool) → Free (key_kind wide) (key_record k)
-    go true = f
-    go false = f
+module _ (P : Record → Type 0) (k : Key) where
+  pub of_either : P (rec.Key k) → P (rec.WideKey k) → P (key_record k)
+  of_either p q = go k.wide
+    where
+      go : (wide : Bool) → P (cond wide (rec.WideKey k) (rec.Key k))
+      go true = q
+      go false = p
 
-pub key_body : (k : Key) → body_bytes (key_kind k.wide) (key_record k) ≡ key_bytes k.wide k
+pub key_free : (k : Key) → stage_flags_bad k.stages ≡ false → Free (key_record k)
+key_free k f = of_either Free k f f
+
+pub key_shaped : (k : Key) → length k.stages ≡ 8 → Shaped (key_record k)
+key_shaped k h = of_either Shaped k h h
+
+pub key_kind_of : (k : Key) → kind_of (key_record k) ≡ key_kind k.wide
+key_kind_of k = go k.wide
+  where
+    go : (wide : Bool) → kind_of (cond wide (rec.WideKey k) (rec.Key k)) ≡ key_kind wide
+    go true = refl
+    go false = refl
+
+pub key_body : (k : Key) → body_bytes (key_record k) ≡ key_bytes k.wide k
 unfolding body_bytes
 key_body k = go k.wide
   where
-    go : (wide : Bool) → body_bytes (key_kind wide) (key_record k) ≡ key_bytes wide k
+    go : (wide : Bool) → body_bytes (cond wide (rec.WideKey k) (rec.Key k)) ≡ key_bytes wide k
     go true = refl
     go false = refl
 
@@ -96,40 +116,17 @@ stages-length false (s ∷ l) = simp length-append (omega (arith, stages-length 
 stages_end : (wide : Bool) (l : List Stage) → length l ≡ 8 → length (stages_bytes wide l) ≡ specular_at wide
 stages_end wide l h = stages-length wide l ∙ ap (λ (n : ℕ). stage_size wide * n) h ∙ eight_stages wide
 
-pub body-length : (k : Kind) (r : Record) → Shaped r → length (body_bytes k r) ≡ body_length k
+pub body-length : (r : Record) → Shaped r → length (body_bytes r) ≡ body_length (kind_of r)
 unfolding body_bytes key_bytes variant_bytes
-body-length kind.Key r h = simp length-append (omega (arith, stages_end false r.key.stages h.stages))
-body-length kind.Variant r h = refl
-body-length kind.Entry r h = omega (arith, h.name)
-body-length kind.Emit r h = refl
-body-length kind.State r h = refl
-body-length kind.WideKey r h = simp length-append (omega (arith, stages_end true r.key.stages h.stages))
+body-length (rec.Key k) h = simp length-append (omega (arith, stages_end false k.stages h))
+body-length (rec.Variant v) h = refl
+body-length (rec.Entry e) h = omega (arith, h)
+body-length rec.Emit h = refl
+body-length (rec.State w) h = refl
+body-length (rec.WideKey k) h = simp length-append (omega (arith, stages_end true k.stages h))
 
-pub record-length : (r : Record) → Shaped r → length (record_bytes r) ≡ record_length r.kind
-record-length r h = omega (arith, body-length r.kind r h)
-
-pub stages_blank : length blank_key.stages ≡ 8
-unfolding blank_key
-stages_blank = refl
-
-name_blank : length blank_entry.name ≡ 32
-unfolding blank_entry
-name_blank = refl
-
-pub key_shaped : (k : Key) → length k.stages ≡ 8 → Shaped (key_record k)
-key_shaped k h = record { stages = h; name = name_blank }
-
-pub variant_shaped : (v : Variant) → Shaped (variant_record v)
-variant_shaped v = record { stages = stages_blank; name = name_blank }
-
-pub entry_shaped : (e : Entry) → length e.name ≡ 32 → Shaped (entry_record e)
-entry_shaped e h = record { stages = stages_blank; name = h }
-
-pub emit_shaped : Shaped emit_record
-emit_shaped = record { stages = stages_blank; name = name_blank }
-
-pub state_shaped : (w : StateWrite) → Shaped (state_record w)
-state_shaped w = record { stages = stages_blank; name = name_blank }
+pub record-length : (r : Record) → Shaped r → length (record_bytes r) ≡ record_length (kind_of r)
+record-length r h = omega (arith, body-length r h)
 
 pub stages_count : (wide : Bool) (n : ℕ) (b : List ℕ) → length (stages_from_bytes wide n b) ≡ n
 unfolding stages_from_bytes
@@ -192,6 +189,16 @@ pub state_back : (w : StateWrite) (x : List ℕ) → state_from_body (state_byte
 unfolding state_from_body
 state_back w x = simp mask_back
 
+-- the body of a record, whatever stands behind it, stands for what is read of it
+pub record_back : (r : Record) (x : List ℕ) → Shaped r → record_from_body (kind_of r) (body_bytes r ++ x) ≡ own r
+unfolding body_bytes
+record_back (rec.Key k) x h = ap rec.Key (key_back false k x h)
+record_back (rec.Variant v) x h = ap rec.Variant (variant_back v x)
+record_back (rec.Entry e) x h = ap rec.Entry (entry_back e x h)
+record_back rec.Emit x h = refl
+record_back (rec.State w) x h = ap rec.State (state_back w x)
+record_back (rec.WideKey k) x h = ap rec.WideKey (key_back true k x h)
+
 -- The value that a body stands for has that body.
 
 -- n elements from place i on, one by one
@@ -207,10 +214,6 @@ gets-take i (suc n) t h = rw (drop-cons t i 0 (omega arith), gets-take (suc i) n
 stage_again : (wide : Bool) (t : List ℕ) → stage_size wide ≤ length t → stage_bytes wide (stage_from_bytes wide t) ≡ take (stage_size wide) t
 stage_again true t h = gets-take 0 9 t h
 stage_again false t h = gets-take 0 7 t h
-
-pub one_more : (wide : Bool) (n : ℕ) → stage_size wide + stage_size wide * n ≡ stage_size wide * suc n
-one_more true n = omega arith
-one_more false n = omega arith
 
 -- room for one more stage
 module _ (wide : Bool) (n : ℕ) (t : List ℕ) (h : stage_size wide * suc n ≤ length t) where
@@ -282,3 +285,48 @@ entry_again (x ∷ t) h = refl
 pub state_again : (t : List ℕ) → Bytes t → 6 ≤ length t → state_bytes (state_from_body t) ≡ take 6 t
 unfolding state_from_body
 state_again t b h = simp (high_again t b, low_again t b) (gets-take 0 6 t h)
+
+-- The record that a body stands for is of the body's kind, is what is read of it, and has that body.
+pub kind_again : (k : Kind) (b : List ℕ) → kind_of (record_from_body k b) ≡ k
+kind_again kind.Key b = refl
+kind_again kind.Variant b = refl
+kind_again kind.Entry b = refl
+kind_again kind.Emit b = refl
+kind_again kind.State b = refl
+kind_again kind.WideKey b = refl
+
+pub own_again : (k : Kind) (b : List ℕ) → own (record_from_body k b) ≡ record_from_body k b
+unfolding key_from_body
+own_again kind.Key b = ap (λ (l : List Stage). rec.Key (record { stages = l; specular_add = (key_from_body false b).specular_add; projected = (key_from_body false b).projected; wide = false })) (stages_seven 8 b)
+own_again kind.Variant b = refl
+own_again kind.Entry b = refl
+own_again kind.Emit b = refl
+own_again kind.State b = refl
+own_again kind.WideKey b = refl
+
+pub shaped_again : (k : Kind) (b : List ℕ) → body_length k ≤ length b → Shaped (record_from_body k b)
+unfolding key_from_body
+shaped_again kind.Key b h = stages_count false 8 b
+shaped_again kind.Variant b h = tt
+shaped_again kind.Entry b h = name-length b h
+shaped_again kind.Emit b h = tt
+shaped_again kind.State b h = tt
+shaped_again kind.WideKey b h = stages_count true 8 b
+
+-- of a body of a key, specular add is a yes or no
+abbrev pub Small : Kind → List ℕ → Type 0
+Small kind.Key b = specular_byte false b ≤ 1
+Small kind.Variant b = Unit {0}
+Small kind.Entry b = Unit {0}
+Small kind.Emit b = Unit {0}
+Small kind.State b = Unit {0}
+Small kind.WideKey b = specular_byte true b ≤ 1
+
+pub bytes_again : (k : Kind) (b : List ℕ) → Bytes b → body_length k ≤ length b → Small k b → body_bytes (record_from_body k b) ≡ take (body_length k) b
+unfolding body_bytes
+bytes_again kind.Key b w h s = key_again false b h s
+bytes_again kind.Variant b w h s = variant_again b w h
+bytes_again kind.Entry b w h s = entry_again b h
+bytes_again kind.Emit b w h s = refl
+bytes_again kind.State b w h s = state_again b w h
+bytes_again kind.WideKey b w h s = key_again true b h s

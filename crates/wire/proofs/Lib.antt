@@ -1,5 +1,6 @@
-pub mod Bodies
 pub mod Laws
+pub mod Bodies
+pub mod Causes
 pub mod Found
 pub mod Written
 pub mod RoundTrips

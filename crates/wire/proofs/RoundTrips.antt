@@ -1,183 +1,138 @@
 -- "Every record written reads back as itself; every record read writes back to its bytes."
-use mathlib.Core.Path.{◌≡◌, refl, sym, ap, ◌∙◌}
-use mathlib.Core.Bool.{Bool, true, false, ◌||◌}
-use mathlib.Core.List.{List, [], ◌∷◌, ◌++◌, map}
+use mathlib.Core.Path.{◌≡◌, refl, ap, ◌∙◌}
+use mathlib.Core.Bool.{Bool, true, false, cond}
+use mathlib.Core.List.{List, ◌++◌}
 use Prim.Native.Nat.{ℕ, ◌≤◌}
 use native.Mathlib.Omega.{arith}
 use borrow.Author.Tests.{le-ltb}
-use lib.Dec.{leb}
 use lib.ListN.{length, take, drop, length-append}
 use lib.Seq.{length-take-le}
-use Rattle.values.specs.Flags.{stage_flags_bad}
-use Rattle.values.specs.declared.Stage.{Stage}
+use Rattle.std.specs.Prelude.{Result, Ok}
+use Rattle.values.specs.declared.Refusal.{Refusal}
 use Rattle.values.specs.declared.Key.{Key}
 use Rattle.values.specs.declared.Variant.{Variant}
 use Rattle.values.specs.declared.Entry.{Entry}
 use Rattle.values.specs.declared.StateWrite.{StateWrite}
-use Rattle.values.specs.Kinds.{seven_bytes}
-use Rattle.states.specs.States.{wide_stages}
-use Rattle.states.proofs.Accepted.{good}
-use Rattle.wire.specs.Bodies.{body_length, key_kind, record_length, body_bytes, record_bytes}
-use Rattle.wire.specs.Values.{key_as, key_record, variant_record, entry_record, emit_record, state_record}
-use Rattle.wire.specs.Reading.{took, read_body, read_as, read_record}
+use Rattle.wire.specs.Bodies.{kind_byte, kind_of, body_length, record_length, body_bytes, record_bytes}
+use Rattle.wire.specs.Values.{key_as, key_record, own}
+use Rattle.wire.specs.Reading.{kind_from, took, checked_specular, read_body, read_as, read_record}
 use Rattle.wire.specs.Writing.{write_answer, after_writing}
 use Rattle.wire.specs.declared.Kind.{Kind}
 use Rattle.wire.specs.declared.Kind.TheVariants as kind
 use Rattle.wire.specs.declared.Record.{Record}
+use Rattle.wire.specs.declared.Record.TheVariants as rec
 use Rattle.wire.specs.declared.Reading.{Reading}
-use Rattle.wire.specs.declared.ReadAnswer.TheVariants.{Took}
-use Rattle.wire.specs.declared.WriteAnswer.TheVariants.{Wrote}
-use Rattle.wire.proofs.Bodies.{Shaped, Bytes, Free, key_shaped, variant_shaped, entry_shaped, emit_shaped, state_shaped, body-length}
-use Rattle.wire.proofs.Bodies.{key_back, specular_back, variant_back, entry_back, state_back}
-use Rattle.wire.proofs.Laws.{known}
-use Rattle.wire.proofs.Found.{read_cases, read_taken}
+use Rattle.wire.proofs.Bodies.{Shaped, Bytes, Free, key_shaped, body-length, record_back, specular_back}
+use Rattle.wire.proofs.Causes.{free_checks, own_free}
+use Rattle.wire.proofs.Found.{read_taken}
 use Rattle.wire.proofs.Written.{fits_writes, wrote}
 
--- a record with the value of its kind alone, a key as the record's kind has it
-unfoldable pub own_as : Kind → Record → Record
-own_as kind.Key r = key_record (key_as false r.key)
-own_as kind.Variant r = variant_record r.variant
-own_as kind.Entry r = entry_record r.entry
-own_as kind.Emit r = emit_record
-own_as kind.State r = state_record r.write
-own_as kind.WideKey r = key_record (key_as true r.key)
+known : (k : Kind) → kind_from (kind_byte k) ≡ Ok k
+known kind.Key = refl
+known kind.Variant = refl
+known kind.Entry = refl
+known kind.Emit = refl
+known kind.State = refl
+known kind.WideKey = refl
 
-abbrev pub own : Record → Record
-own r = own_as r.kind r
+own_kind : (r : Record) → kind_of (own r) ≡ kind_of r
+own_kind (rec.Key k) = refl
+own_kind (rec.Variant v) = refl
+own_kind (rec.Entry e) = refl
+own_kind rec.Emit = refl
+own_kind (rec.State w) = refl
+own_kind (rec.WideKey k) = refl
 
-own_kind : (k : Kind) (r : Record) → (own_as k r).kind ≡ k
-unfolding own_as
-own_kind kind.Key r = refl
-own_kind kind.Variant r = refl
-own_kind kind.Entry r = refl
-own_kind kind.Emit r = refl
-own_kind kind.State r = refl
-own_kind kind.WideKey r = refl
+specular_reads : (r : Record) (x : List ℕ) → Shaped r → checked_specular (kind_of r) (body_bytes r ++ x) ≡ Ok tt
+unfolding body_bytes
+specular_reads (rec.Key k) x h = rw (specular_back false k x h)
+specular_reads (rec.Variant v) x h = refl
+specular_reads (rec.Entry e) x h = refl
+specular_reads rec.Emit x h = refl
+specular_reads (rec.State w) x h = refl
+specular_reads (rec.WideKey k) x h = rw (specular_back true k x h)
 
--- the flags are those of the key
-flags_seven : (l : List Stage) → stage_flags_bad (map seven_bytes l) ≡ stage_flags_bad l
-unfolding stage_flags_bad
-flags_seven [] = refl
-flags_seven (s ∷ l) = ap (λ (b : Bool). leb 4 s.flags || b) (flags_seven l)
-
--- a body of a value without a cause, whatever stands behind it, is read as that value
+-- a body of a value without a cause, whatever stands behind it, is read as what the record has of the value
 module _ (r : Record) (x : List ℕ) (h : Shaped r) where
-  body_reads : (k : Kind) → Free k r → read_body k (body_bytes k r ++ x) ≡ took (own_as k r)
-  unfolding read_body body_bytes own_as
-  body_reads kind.Key f =
-      rw (key_back false r.key x h.stages, flags_seven r.key.stages, f, specular_back false r.key x h.stages)
-  body_reads kind.Variant f = rw (variant_back r.variant x, f)
-  body_reads kind.Entry f = rw (entry_back r.entry x h.name, f.0, f.1)
-  body_reads kind.Emit f = refl
-  body_reads kind.State f = rw (state_back r.write x, good r.write f)
-  body_reads kind.WideKey f = rw (key_back true r.key x h.stages, f, specular_back true r.key x h.stages)
+  body_reads : Free r → read_body (kind_of r) (body_bytes r ++ x) ≡ took (own r)
+  unfolding read_body
+  body_reads f = rw (record_back r x h, free_checks (own r) (own_free r f), specular_reads r x h)
 
-  as_reads : (k : Kind) → Free k r → read_as k (body_bytes k r ++ x) ≡ took (own_as k r)
+  as_reads : Free r → read_as (kind_of r) (body_bytes r ++ x) ≡ took (own r)
   unfolding read_as
-  as_reads k f =
-      rw (le-ltb (length (body_bytes k r ++ x)) (body_length k) (simp length-append (omega (arith, body-length k r h)))) (body_reads k f)
+  as_reads f =
+      rw (le-ltb (length (body_bytes r ++ x)) (body_length (kind_of r)) (simp length-append (omega (arith, body-length r h)))) (body_reads f)
 
-  -- A record without a cause, followed by anything, is read as its own value, and takes as many bytes as it has.
-  pub bytes_read : Free r.kind r → read_record (record_bytes r ++ x) ≡ took (own r)
+  -- A record without a cause, followed by anything, is read as what it has of its value, and takes as many bytes as it has.
+  pub bytes_read : Free r → read_record (record_bytes r ++ x) ≡ took (own r)
   unfolding read_record
-  bytes_read f = sym (known r.kind _ refl) ∙ as_reads r.kind f
+  bytes_read f = rw (known (kind_of r)) (as_reads f)
 
--- Every record written reads back as its own value.
-pub own_reads_back : (r : Record) (out : List ℕ) (n : ℕ) → Shaped r → write_answer r (length out) ≡ Wrote n →
-    read_record (after_writing (Wrote n) (record_bytes r) out) ≡ record { answer = Took n; found = own r }
+-- what is read of n bytes
+abbrev Reads : Record → ℕ → Result Reading Refusal
+Reads r n = Ok (record { «record» = r; length = n })
+
+-- Every record written reads back as what it has of its value.
+pub own_reads_back : (r : Record) (out : List ℕ) (n : ℕ) → Shaped r → write_answer r (length out) ≡ Ok n →
+    read_record (after_writing (Ok n) (record_bytes r) out) ≡ Ok (record { «record» = own r; length = n })
 own_reads_back r out n h a =
     let w = wrote r (length out) n a in
-    bytes_read r _ h w.0.free
-    ∙ ap (λ (m : ℕ). record { answer = Took m; found = own r }) (ap record_length (own_kind r.kind r) ∙ w.1)
-
--- A record as a user makes it: by `key_record`, `variant_record`, `entry_record`, `emit_record` or `state_record`. Of a key its own kind has all.
-pub data Made : Record → Type 0 where
-  key : (k : Key) → wide_stages k ≡ k.stages → Made (key_record k)
-  variant : (v : Variant) → Made (variant_record v)
-  entry : (e : Entry) → Made (entry_record e)
-  emit : Made emit_record
-  state : (w : StateWrite) → Made (state_record w)
-
--- a key's own record has of it what its kind has
-key_own : (k : Key) → own (key_record k) ≡ key_record (key_as k.wide k)
-unfolding own_as
-key_own k = go k.wide
-  where
-    go : (wide : Bool) → own_as (key_kind wide) (key_record k) ≡ key_record (key_as wide k)
-    go true = refl
-    go false = refl
-
-made_own : (r : Record) → Made r → own r ≡ r
-unfolding own_as wide_stages
-made_own r (key k e) =
-    key_own k
-    ∙ ap (λ (l : List Stage). key_record (record { stages = l; specular_add = k.specular_add; projected = k.projected; wide = k.wide })) e
-made_own r (variant v) = refl
-made_own r (entry e) = refl
-made_own r emit = refl
-made_own r (state w) = refl
+    bytes_read r _ h w.0.free ∙ ap (Reads (own r)) (ap record_length (own_kind r) ∙ w.1)
 
 -- Wherever the writer writes r, the reader finds f, in as many bytes as were written.
 abbrev pub ReadsAs : Record → Record → Type 0
-ReadsAs r f = (out : List ℕ) (n : ℕ) → write_answer r (length out) ≡ Wrote n →
-    read_record (after_writing (Wrote n) (record_bytes r) out) ≡ record { answer = Took n; found = f }
+ReadsAs r f = (out : List ℕ) (n : ℕ) → write_answer r (length out) ≡ Ok n →
+    read_record (after_writing (Ok n) (record_bytes r) out) ≡ Ok (record { «record» = f; length = n })
 
 abbrev pub ReadsBack : Record → Type 0
 ReadsBack r = ReadsAs r r
 
--- "Every record written reads back as itself"
-pub written_reads_back : (r : Record) → Made r → Shaped r → ReadsBack r
-written_reads_back r m h out n a =
-    own_reads_back r out n h a ∙ ap (λ (x : Record). record { answer = Took n; found = x }) (made_own r m)
+-- "Every record written reads back as itself": every record that has all of its value, as each has but one of a key of the other kind or, of kind 1, with
+-- arguments 0 other than their default.
+pub written_reads_back : (r : Record) → own r ≡ r → Shaped r → ReadsBack r
+written_reads_back r e h out n a = own_reads_back r out n h a ∙ ap (λ (r : Record). Reads r n) e
 
 -- So a variant, an entry, a request for a text and a state write do, and a key of kind 6. A key of kind 1 comes back as what kind 1 has of it: itself,
 -- but that its arguments 0 are their default.
 pub key_reads_back : (k : Key) → length k.stages ≡ 8 → ReadsAs (key_record k) (key_record (key_as k.wide k))
-key_reads_back k h out n a =
-    own_reads_back (key_record k) out n (key_shaped k h) a ∙ ap (λ (x : Record). record { answer = Took n; found = x }) (key_own k)
+key_reads_back k h out n a = own_reads_back (key_record k) out n (key_shaped k h) a ∙ ap (λ (r : Record). Reads r n) (go k.wide)
+  where
+    go : (wide : Bool) → own (cond wide (rec.WideKey k) (rec.Key k)) ≡ key_record (key_as wide k)
+    go true = refl
+    go false = refl
 
 pub wide_key_reads_back : (k : Key) → length k.stages ≡ 8 → k.wide ≡ true → ReadsBack (key_record k)
-unfolding wide_stages
-wide_key_reads_back k h w = written_reads_back (key_record k) (key k (rw w)) (key_shaped k h)
+wide_key_reads_back k h w = written_reads_back (key_record k) (rw w) (key_shaped k h)
 
-pub variant_reads_back : (v : Variant) → ReadsBack (variant_record v)
-variant_reads_back v = written_reads_back (variant_record v) (variant v) (variant_shaped v)
+pub variant_reads_back : (v : Variant) → ReadsBack (rec.Variant v)
+variant_reads_back v = written_reads_back (rec.Variant v) refl tt
 
-pub entry_reads_back : (e : Entry) → length e.name ≡ 32 → ReadsBack (entry_record e)
-entry_reads_back e h = written_reads_back (entry_record e) (entry e) (entry_shaped e h)
+pub entry_reads_back : (e : Entry) → length e.name ≡ 32 → ReadsBack (rec.Entry e)
+entry_reads_back e h = written_reads_back (rec.Entry e) refl h
 
-pub emit_reads_back : ReadsBack emit_record
-emit_reads_back = written_reads_back emit_record emit emit_shaped
+pub emit_reads_back : ReadsBack rec.Emit
+emit_reads_back = written_reads_back rec.Emit refl tt
 
-pub state_reads_back : (w : StateWrite) → ReadsBack (state_record w)
-state_reads_back w = written_reads_back (state_record w) (state w) (state_shaped w)
+pub state_reads_back : (w : StateWrite) → ReadsBack (rec.State w)
+state_reads_back w = written_reads_back (rec.State w) refl tt
 
--- The record that was read from b can be written into every buffer that has room for its n bytes, and gives these n bytes again.
+-- The record that was read from b can be written into every buffer that has room for its bytes, and gives these bytes again.
 abbrev pub WritesBack : List ℕ → Type 0
-WritesBack b = (out : List ℕ) (n : ℕ) → (read_record b).answer ≡ Took n → n ≤ length out →
-    (write_answer (read_record b).found (length out) ≡ Wrote n)
-    × (after_writing (Wrote n) (record_bytes (read_record b).found) out ≡ take n b ++ drop n out)
+WritesBack b = (out : List ℕ) (r : Reading) → read_record b ≡ Ok r → r.length ≤ length out →
+    (write_answer r.«record» (length out) ≡ Ok r.length)
+    × (after_writing (Ok r.length) (record_bytes r.«record») out ≡ take r.length b ++ drop r.length out)
 
 -- "every record read writes back to its bytes"
 pub read_writes_back : (b : List ℕ) → Bytes b → WritesBack b
-read_writes_back b h out n a room =
-    let r = (read_record b).found in
-    let t = read_taken b n a in
-    let e : record_bytes r ≡ take n b = t.0.bytes h ∙ ap (λ (m : ℕ). take m b) t.1 in
+read_writes_back b h out r a room =
+    let t = read_taken b r a in
+    let n = r.length in
+    let e : record_bytes r.«record» ≡ take n b = t.0.bytes h ∙ ap (λ (m : ℕ). take m b) t.1 in
     let within : n ≤ length b = omega (arith, t.0.within, t.1) in (
-      fits_writes r (length out) t.0.free (omega (arith, t.1)) ∙ ap Wrote t.1,
+      fits_writes r.«record» (length out) t.0.free (omega (arith, t.1)) ∙ ap Ok t.1,
       ap (λ (l : List ℕ). l ++ drop (length l) out) e ∙ ap (λ (i : ℕ). take n b ++ drop i out) (length-take-le n b within),
     )
 
--- and is a record as a user makes it
-pub read_made : (b : List ℕ) → Made (read_record b).found
-read_made b =
-    read_cases (λ (x : Reading). Made x.found) b
-    (record {
-      refusal = λ c n. emit;
-      key = λ k e t. key k e;
-      variant = λ v t. variant v;
-      entry = λ e t. entry e;
-      emit = λ t. emit;
-      state = λ w t. state w;
-    })
+-- and reads back as itself
+pub read_settled : (b : List ℕ) (r : Reading) → read_record b ≡ Ok r → own r.«record» ≡ r.«record»
+read_settled b r a = (read_taken b r a).0.settled

@@ -9,6 +9,7 @@ use Rattle.values.specs.Kinds.{default_arg0}
 use Rattle.wire.specs.declared.Kind.{Kind}
 use Rattle.wire.specs.declared.Kind.TheVariants as kind
 use Rattle.wire.specs.declared.Record.{Record}
+use Rattle.wire.specs.declared.Record.TheVariants as rec
 
 -- 01: "A kind byte": "1, key", "2, variant", "3, entry", "4, emit"; 02, One: "kind 5"; Nine: "Kind 6 is a key of 74 bytes"
 abbrev pub kind_byte : Kind → ℕ
@@ -31,6 +32,15 @@ body_length kind.WideKey = 74
 -- the kind byte and the body
 abbrev pub record_length : Kind → ℕ
 record_length k = 1 + body_length k
+
+-- the kind of a record
+abbrev pub kind_of : Record → Kind
+kind_of (rec.Key k) = kind.Key
+kind_of (rec.Variant v) = kind.Variant
+kind_of (rec.Entry e) = kind.Entry
+kind_of rec.Emit = kind.Emit
+kind_of (rec.State w) = kind.State
+kind_of (rec.WideKey k) = kind.WideKey
 
 -- The two kinds of key: wide is true for kind 6 and false for kind 1.
 abbrev pub key_kind : Bool → Kind
@@ -147,14 +157,23 @@ state_bytes w = w.stage ∷ w.state ∷ word_bytes w.value
 unfoldable pub state_from_body : List ℕ → StateWrite
 state_from_body b = record { stage = get_or b 0 0; state = get_or b 1 0; value = word_at b 2 }
 
-unfoldable pub body_bytes : Kind → Record → List ℕ
-body_bytes kind.Key r = key_bytes false r.key
-body_bytes kind.Variant r = variant_bytes r.variant
-body_bytes kind.Entry r = entry_bytes r.entry
-body_bytes kind.Emit r = []
-body_bytes kind.State r = state_bytes r.write
-body_bytes kind.WideKey r = key_bytes true r.key
+unfoldable pub body_bytes : Record → List ℕ
+body_bytes (rec.Key k) = key_bytes false k
+body_bytes (rec.Variant v) = variant_bytes v
+body_bytes (rec.Entry e) = entry_bytes e
+body_bytes rec.Emit = []
+body_bytes (rec.State w) = state_bytes w
+body_bytes (rec.WideKey k) = key_bytes true k
+
+-- the record that a body of each kind stands for
+abbrev pub record_from_body : Kind → List ℕ → Record
+record_from_body kind.Key b = rec.Key (key_from_body false b)
+record_from_body kind.Variant b = rec.Variant (variant_from_body b)
+record_from_body kind.Entry b = rec.Entry (entry_from_body b)
+record_from_body kind.Emit b = rec.Emit
+record_from_body kind.State b = rec.State (state_from_body b)
+record_from_body kind.WideKey b = rec.WideKey (key_from_body true b)
 
 -- 01: "A kind byte, then a body"
 abbrev pub record_bytes : Record → List ℕ
-record_bytes r = kind_byte r.kind ∷ body_bytes r.kind r
+record_bytes r = kind_byte (kind_of r) ∷ body_bytes r

@@ -1,5 +1,7 @@
 pub mod Bodies
 pub mod Values
+pub mod Steps
+pub mod Causes
 pub mod Reading
 pub mod Writing
 pub mod Altering

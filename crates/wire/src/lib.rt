@@ -4,12 +4,14 @@
 pub use values::{Combiner, Entry, Key, Stage, StateWrite, Variant};
 
 pub mod alter;
-pub mod make;
+mod checks;
 pub mod reader;
 pub mod writer;
 
 ghost use Rattle.std.specs.Prelude.{◌≡◌};
-ghost use Rattle.wire.specs.Bodies.{body_length, key_kind, kind_byte, record_length};
+ghost use Rattle.wire.specs.Bodies.{body_length, key_kind, kind_byte, kind_of, record_length};
+ghost use Rattle.wire.specs.Reading.{kind_from};
+ghost use Rattle.wire.specs.Values.{key_record};
 
 use values::Refusal;
 
@@ -23,35 +25,22 @@ pub enum Kind {
     WideKey,
 }
 
-// A record by value. It is the value of its kind, and of both kinds of key its key; the others are looked at nowhere, and blank in a record that was read.
+// A record by value: that of its kind.
 #[derive(Clone, Copy)]
-pub struct Record {
-    pub kind: Kind,
-    pub key: Key,
-    pub variant: Variant,
-    pub entry: Entry,
-    pub write: StateWrite,
+pub enum Record {
+    Key(Key),
+    Variant(Variant),
+    Entry(Entry),
+    Emit,
+    State(StateWrite),
+    WideKey(Key),
 }
 
-#[derive(Clone, Copy)]
-pub enum ReadAnswer {
-    // How many bytes the record took.
-    Took(usize),
-    Refused(Refusal),
-}
-
-// The record is blank where it is refused.
+// A record that was read, and how many bytes it took.
 #[derive(Clone, Copy)]
 pub struct Reading {
-    pub answer: ReadAnswer,
-    pub found: Record,
-}
-
-#[derive(Clone, Copy)]
-pub enum WriteAnswer {
-    // How many bytes were written.
-    Wrote(usize),
-    Refused(Refusal),
+    pub record: Record,
+    pub length: usize,
 }
 
 // The byte that a record of each kind begins with.
@@ -80,24 +69,44 @@ const STATE_BODY: usize = 6;
 
 const WIDE_KEY_BODY: usize = 74;
 
+impl From<Kind> for u8 {
+    ghost from_gives = { λ kind byte. byte ≡ kind_byte kind };
+
+    fn from(kind: Kind) -> u8 {
+        match kind {
+            Kind::Key => KIND_KEY,
+            Kind::Variant => KIND_VARIANT,
+            Kind::Entry => KIND_ENTRY,
+            Kind::Emit => KIND_EMIT,
+            Kind::State => KIND_STATE,
+            Kind::WideKey => KIND_WIDE_KEY,
+        }
+    }
+}
+
+impl TryFrom<u8> for Kind {
+    type Error = Refusal;
+
+    ghost try_from_gives = { λ byte kind. kind ≡ kind_from byte };
+
+    fn try_from(byte: u8) -> Result<Kind, Refusal> {
+        match byte {
+            KIND_KEY => Ok(Kind::Key),
+            KIND_VARIANT => Ok(Kind::Variant),
+            KIND_ENTRY => Ok(Kind::Entry),
+            KIND_EMIT => Ok(Kind::Emit),
+            KIND_STATE => Ok(Kind::State),
+            KIND_WIDE_KEY => Ok(Kind::WideKey),
+            _ => Err(Refusal::UnknownKind),
+        }
+    }
+}
+
 // The kind of a key's records: with arguments 0, or without.
 pub fn key_kind(wide: bool) -> Kind
     ensures { result ≡ key_kind wide }
 {
     if wide { Kind::WideKey } else { Kind::Key }
-}
-
-pub fn kind_byte(kind: Kind) -> u8
-    ensures { result ≡ kind_byte kind }
-{
-    match kind {
-        Kind::Key => KIND_KEY,
-        Kind::Variant => KIND_VARIANT,
-        Kind::Entry => KIND_ENTRY,
-        Kind::Emit => KIND_EMIT,
-        Kind::State => KIND_STATE,
-        Kind::WideKey => KIND_WIDE_KEY,
-    }
 }
 
 // The length of a kind's body.
@@ -119,4 +128,29 @@ pub fn record_length(kind: Kind) -> usize
     ensures { result ≡ record_length kind }
 {
     1 + body_length(kind)
+}
+
+impl Record {
+    pub fn kind(&self) -> Kind
+        ensures { result ≡ kind_of self.now }
+    {
+        match self {
+            Record::Key(_) => Kind::Key,
+            Record::Variant(_) => Kind::Variant,
+            Record::Entry(_) => Kind::Entry,
+            Record::Emit => Kind::Emit,
+            Record::State(_) => Kind::State,
+            Record::WideKey(_) => Kind::WideKey,
+        }
+    }
+}
+
+// The record of the key's own kind.
+pub fn key_record(key: Key) -> Record
+    ensures { result ≡ key_record key }
+{
+    if key.wide {
+        return Record::WideKey(key);
+    }
+    Record::Key(key)
 }

@@ -1,7 +1,0 @@
--- The stages, and the two bytes behind them.
-use Rattle.wire.specs.Bodies.{key_from_body}
-use Rattle.wire.proofs.reader.wide_key.Goals as goal
-
-pub returns : goal.returns
-unfolding key_from_body
-returns c = rw c.wide_stages-stages.ensures
