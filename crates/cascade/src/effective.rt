@@ -6,8 +6,6 @@ use combiners::codes::*;
 use combiners::ops::three_operands;
 use values::{Combiner, Key, Stage};
 
-const STAGES: usize = 8;
-
 fn narrow_op(op: u8) -> u8
     ensures { result ≡ narrow_op op }
 {
@@ -40,19 +38,15 @@ fn narrow_stage(s: Stage) -> Stage
     }
 }
 
-#[tactic(auto, unfolding(crate::specs::Effective::effective_stages, values::proofs::Mapped::first_mapped))]
+#[tactic(auto, unfolding(crate::specs::Effective::effective_stages))]
 fn effective_stages(k: Key) -> [Stage; 8]
     ensures { result ≡ effective_stages k }
 {
     let mut stages = k.stages;
-    if k.wide {
-        return stages;
-    }
-    let mut i = 0;
-    while i < STAGES {
-        let s = k.stages[i];
-        stages[i] = narrow_stage(s);
-        i += 1;
+    if !k.wide {
+        for s in &mut stages {
+            *s = narrow_stage(*s);
+        }
     }
     stages
 }

@@ -31,19 +31,10 @@ pub fn to_temp(s: Stage) -> bool
 pub(crate) fn active_count(k: Key) -> usize
     ensures { result ≡ active_count k.stages }
 {
-    let mut i = 0;
-    let n = loop {
-        if i == STAGES {
-            break STAGES;
-        }
-        let s = k.stages[i];
-        let c = s.colour;
-        if c.op == D3DTOP_DISABLE {
-            break i;
-        }
-        i += 1;
-    };
-    n
+    k.stages
+        .iter()
+        .position(|s| s.colour.op == D3DTOP_DISABLE)
+        .unwrap_or(STAGES)
 }
 
 fn reads_first(op: u8) -> bool

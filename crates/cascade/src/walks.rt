@@ -105,11 +105,8 @@ fn facts_of(k: Key, n: usize) -> Facts
         selector: 0,
         modifier: 0,
     };
-    let mut i = n;
-    while 0 < i {
-        i -= 1;
-        let s = k.stages[i];
-        f = add_fact(f, s, i as u8);
+    for i in (0..n).rev() {
+        f = add_fact(f, k.stages[i], i as u8);
     }
     f
 }
@@ -138,11 +135,8 @@ fn marks_from(k: Key, n: usize, alive: bool) -> Marks
         marks: 0,
         bump_env: false,
     };
-    let mut i = n;
-    while 0 < i {
-        i -= 1;
-        let s = k.stages[i];
-        m = add_mark(m, s, alive);
+    for i in (0..n).rev() {
+        m = add_mark(m, k.stages[i], alive);
     }
     m
 }

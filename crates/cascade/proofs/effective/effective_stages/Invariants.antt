@@ -1,17 +1,11 @@
--- A key of kind 6 keeps its stages; in another the loop has narrowed the stages before i.
-use Rattle.std.proofs.Common.{◌≤◌, ◌-◌, ◌≡◌, false, length}
-use Rattle.values.proofs.Mapped.{first_mapped}
+-- The loop has narrowed the stages before the one at hand.
+use Rattle.std.proofs.Common.{◌≡◌, ◌++◌, length, map, take, drop}
 use Rattle.cascade.specs.Effective.{narrow_stage}
 use Rattle.cascade.proofs.effective.effective_stages.Given as goal
 
-abbrev pub invariant-loop-i : goal.invariant-loop-i
-invariant-loop-i l =
+abbrev pub invariant-loop-s : goal.invariant-loop-s
+invariant-loop-s l =
     record {
-      within : l.i ≤ 8;
-      eight : length l.k.stages ≡ 8;
-      narrowed : l.stages ≡ first_mapped narrow_stage l.i l.k.stages;
-      narrow : l.k.wide ≡ false;
+      eight : length l.s-items ≡ 8;
+      narrowed : l.s-items ≡ map narrow_stage (take l.s-index l.fn.k.stages) ++ drop l.s-index l.fn.k.stages;
     }
-
-abbrev pub decreases-loop-i : goal.decreases-loop-i
-decreases-loop-i l = 8 - l.i

@@ -7,6 +7,3 @@ use Rattle.cascade.proofs.walks.marks_from.Given as goal
 
 abbrev pub invariant-loop-i : goal.invariant-loop-i
 invariant-loop-i l = record { walk : Walk l.k.stages l.n l.i; marks : l.m ≡ marks_from l.alive (drop l.i (active l.k.stages)) }
-
-abbrev pub decreases-loop-i : goal.decreases-loop-i
-decreases-loop-i l = l.i
