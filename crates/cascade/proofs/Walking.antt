@@ -21,27 +21,14 @@ use Rattle.cascade.specs.declared.walks.Marks.{Marks}
 use Rattle.cascade.proofs.Active.{active-take, count_le, here, past}
 use Rattle.cascade.proofs.Reports.{warned}
 
--- a walk over the n active stages of eight has come down to stage i
-pub record Walk (l : List Stage) (n i : ℕ) : Type 0 where
-  pub within : i ≤ n
-  pub few : n ≤ 8
-  pub counted : n ≡ active_count l
-  pub eight : length l ≡ 8
-
-pub begin : (l : List Stage) (n : ℕ) → n ≡ active_count l → length l ≡ 8 → Walk l n n
-begin l n h e = record { within = omega arith; few = omega (arith, count_le l); counted = h; eight = e }
-
-pub down : (l : List Stage) (n i : ℕ) → Walk l n i → Walk l n (i - 1)
-down l n i w = record { within = omega (arith, w.within); few = w.few; counted = w.counted; eight = w.eight }
-
 -- What is carried is a function P of the stages from i on, and `add` puts one more in front of them.
 more : {A : Type 0} (P : ℕ → List Stage → A) (add : ℕ → Stage → A → A) → ((i : ℕ) (s : Stage) (r : List Stage) → add i s (P (suc i) r) ≡ P i (s ∷ r))
-    → (l : List Stage) (n i : ℕ) (d : Stage) (x y : A) → Walk l n i → 0 < i → x ≡ P i (drop i (active l)) → y ≡ add (i - 1) (get_or l (i - 1) d) x
-    → y ≡ P (i - 1) (drop (i - 1) (active l))
-more P add cons l n i d x y w p e k =
+    → (l : List Stage) (i : ℕ) (d : Stage) (x y : A) → i ≤ active_count l → 0 < i → x ≡ P i (drop i (active l))
+    → y ≡ add (i - 1) (get_or l (i - 1) d) x → y ≡ P (i - 1) (drop (i - 1) (active l))
+more P add cons l i d x y w p e k =
     let j = i - 1 in
     let s : i ≡ j + 1 = omega arith in
-    let q : j < active_count l = omega (arith, w.within, w.counted) in
+    let q : j < active_count l = omega arith in
     k ∙ rw (rw s at e, here l j d q, add-one) (cons j (get_or l j d) (drop (suc j) (active l)))
 
 facts_cons : (i : ℕ) (s : Stage) (r : List Stage) → add_fact i s (facts_of (suc i) r) ≡ facts_of i (s ∷ r)
@@ -61,14 +48,14 @@ marks_cons : (alive : Bool) (s : Stage) (r : List Stage) → add_mark alive s (m
 unfolding marks_from marks_of reads_bump_env
 marks_cons alive s r = rw (marked_by_lem alive s r)
 
-module _ (l : List Stage) (n i : ℕ) (d : Stage) (w : Walk l n i) (p : 0 < i) where
+module _ (l : List Stage) (i : ℕ) (d : Stage) (w : i ≤ active_count l) (p : 0 < i) where
   pub facts_more : (f g : Facts) → f ≡ facts_of i (drop i (active l)) → g ≡ add_fact (i - 1) (get_or l (i - 1) d) f
       → g ≡ facts_of (i - 1) (drop (i - 1) (active l))
-  facts_more f g = more facts_of add_fact facts_cons l n i d f g w p
+  facts_more f g = more facts_of add_fact facts_cons l i d f g w p
 
   pub marks_more : (alive : Bool) (m o : Marks) → m ≡ marks_from alive (drop i (active l)) → o ≡ add_mark alive (get_or l (i - 1) d) m
       → o ≡ marks_from alive (drop (i - 1) (active l))
-  marks_more alive m o = more (λ j. marks_from alive) (λ j. add_mark alive) (λ j. marks_cons alive) l n i d m o w p
+  marks_more alive m o = more (λ j. marks_from alive) (λ j. add_mark alive) (λ j. marks_cons alive) l i d m o w p
 
 -- none behind the last
 pub facts_none : (l : List Stage) (n : ℕ) → n ≡ active_count l
@@ -97,15 +84,15 @@ marks_small alive [] = omega arith
 marks_small alive (s ∷ r) = bit_small (marked alive (s ∷ r)) (marks_of alive r) (length r) (marks_small alive r)
 
 -- behind the first of eight stages there are at most seven
-seven : (l : List Stage) (n i m : ℕ) → Walk l n i → 0 < i → m < 2 ^ length (drop i (active l)) → m < 128
-seven l n i m w p h = let q : 2 ^ length (drop i (active l)) ≤ 2 ^ 7 = pow-le-pow_right (omega arith) behind in omega arith
+seven : (l : List Stage) (i m : ℕ) → length l ≡ 8 → 0 < i → m < 2 ^ length (drop i (active l)) → m < 128
+seven l i m e p h = let q : 2 ^ length (drop i (active l)) ≤ 2 ^ 7 = pow-le-pow_right (omega arith) behind in omega arith
   where
     behind : length (drop i (active l)) ≤ 7
-    behind = rw (active-take l) (simp length-drop (rw (length-take-le (active_count l) l (count_le l)) (omega (arith, count_le l, w.eight))))
+    behind = rw (active-take l) (simp length-drop (rw (length-take-le (active_count l) l (count_le l)) (omega (arith, count_le l))))
 
-module _ (l : List Stage) (n i : ℕ) (w : Walk l n i) (p : 0 < i) where
+module _ (l : List Stage) (i : ℕ) (w : length l ≡ 8) (p : 0 < i) where
   few_where : (f : Stage → Bool) → stages_where f (drop i (active l)) < 128
-  few_where f = seven l n i _ w p (mask_small f (drop i (active l)))
+  few_where f = seven l i _ w p (mask_small f (drop i (active l)))
 
   pub facts_small : (f : Facts) → f ≡ facts_of i (drop i (active l)) → SevenStages f
   unfolding facts_of
@@ -120,7 +107,7 @@ module _ (l : List Stage) (n i : ℕ) (w : Walk l n i) (p : 0 < i) where
 
   pub few_marks : (alive : Bool) (m : Marks) → m ≡ marks_from alive (drop i (active l)) → m.marks < 128
   unfolding marks_from
-  few_marks alive m e = rw e (seven l n i _ w p (marks_small alive (drop i (active l))))
+  few_marks alive m e = rw e (seven l i _ w p (marks_small alive (drop i (active l))))
 
 -- everything together
 pub surveyed : (l : List Stage) (n : ℕ) (f : Facts) (m : Marks) (r : ℕ) → length l ≡ 8 → n ≡ active_count l → f ≡ facts_of 0 (active l)

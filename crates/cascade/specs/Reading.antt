@@ -24,12 +24,15 @@ unfoldable pub alpha_written : Stage → Bool
 alpha_written s =
     not (alpha_from_colour s) && (not (eqb s.alpha.op disable) && (falls_back (textured s) s.alpha || not (is_bump_op s.alpha.op)))
 
--- the expressions of a stage that is no bump stage read it
+-- the expressions of a stage that is no bump stage read it: colour's, or alpha's where there is one
+abbrev pub some_expression : (Bool → Combiner → Bool) → Stage → Bool
+some_expression by s = by (textured s) s.colour || (alpha_written s && by (textured s) s.alpha)
+
 unfoldable pub reads_temp : Stage → Bool
-reads_temp s = reads_temp_by (textured s) s.colour || (alpha_written s && reads_temp_by (textured s) s.alpha)
+reads_temp s = some_expression reads_temp_by s
 
 unfoldable pub reads_texel : Stage → Bool
-reads_texel s = reads_texel_by (textured s) s.colour || (alpha_written s && reads_texel_by (textured s) s.alpha)
+reads_texel s = some_expression reads_texel_by s
 
 -- 01: "TEMP is live if the expressions of some active stage, no bump stage, read it."
 unfoldable pub live : List Stage → Bool

@@ -10,14 +10,19 @@ use Rattle.values.specs.declared.Stage.{Stage}
 use Rattle.cascade.specs.declared.walks.Facts.{Facts}
 use Rattle.cascade.specs.declared.walks.Marks.{Marks}
 
--- a combiner gives a cause, and a stage warns of it: it applies a combiner that gives it
+-- a combiner gives a cause
 abbrev pub gives : Cause → Combiner → Bool
 gives op_cause c = without_text c.op
 gives selector_cause c = some unknown_selector c
 gives modifier_cause c = some unknown_modifier c
 
+-- a stage applies a combiner of which p holds
+abbrev pub warned : (Combiner → Bool) → Stage → Bool
+warned p s = (applies_colour s && p s.colour) || (applies_alpha s && p s.alpha)
+
+-- it warns of a cause: it applies a combiner that gives it
 unfoldable pub warns : Cause → Stage → Bool
-warns c s = (applies_colour s && gives c s.colour) || (applies_alpha s && gives c s.alpha)
+warns c s = warned (gives c) s
 
 -- the stages from number i on, each by itself
 unfoldable pub facts_of : ℕ → List Stage → Facts

@@ -46,15 +46,11 @@ fn arg0_of(textured: bool, c: Combiner) -> Arg
 fn combined(textured: bool, c: Combiner) -> Expression
     ensures { result ≡ combined textured c }
 {
-    let op = op_of(c.op);
-    let x = arg_of(c.arg1, textured);
-    let y = arg_of(c.arg2, textured);
-    let z = arg0_of(textured, c);
     Expression {
-        op: op,
-        arg1: x,
-        arg2: y,
-        arg0: z,
+        op: op_of(c.op),
+        arg1: arg_of(c.arg1, textured),
+        arg2: arg_of(c.arg2, textured),
+        arg0: arg0_of(textured, c),
     }
 }
 
@@ -68,27 +64,19 @@ fn expression_of(textured: bool, c: Combiner) -> Expression
     combined(textured, c)
 }
 
-#[tactic(auto, unfolding(crate::specs::Stages::alpha_of))]
+#[tactic(auto, unfolding(crate::specs::Stages::alpha_of, crate::specs::Stages::expression_of))]
 fn alpha_of(s: Stage) -> Alpha
     ensures { result ≡ alpha_of s }
 {
-    let a = s.alpha;
     let t = textured(s);
+    let a = s.alpha;
     if alpha_from_colour(s) {
         return Alpha::FromColour;
     }
-    if a.op == D3DTOP_DISABLE {
+    if a.op == D3DTOP_DISABLE || (is_bump_op(a.op) && !falls_back(t, a)) {
         return Alpha::Kept;
     }
-    if falls_back(t, a) {
-        let e = fallback();
-        return Alpha::Written(e);
-    }
-    if is_bump_op(a.op) {
-        return Alpha::Kept;
-    }
-    let e = combined(t, a);
-    Alpha::Written(e)
+    Alpha::Written(expression_of(t, a))
 }
 
 // A bump stage writes none.
@@ -99,10 +87,8 @@ pub fn decode(s: Stage) -> Option<Expressions>
     if is_bump(s) {
         return None;
     }
-    let colour = expression_of(textured(s), s.colour);
-    let alpha = alpha_of(s);
     Some(Expressions {
-        colour: colour,
-        alpha: alpha,
+        colour: expression_of(textured(s), s.colour),
+        alpha: alpha_of(s),
     })
 }

@@ -20,20 +20,16 @@ fn narrow_combiner(c: Combiner) -> Combiner
 {
     Combiner {
         op: narrow_op(c.op),
-        arg1: c.arg1,
-        arg2: c.arg2,
-        arg0: c.arg0,
+        ..c
     }
 }
 
 fn narrow_stage(s: Stage) -> Stage
     ensures { result ≡ narrow_stage s }
 {
-    let colour = narrow_combiner(s.colour);
-    let alpha = narrow_combiner(s.alpha);
     Stage {
-        colour: colour,
-        alpha: alpha,
+        colour: narrow_combiner(s.colour),
+        alpha: narrow_combiner(s.alpha),
         flags: s.flags,
     }
 }
@@ -54,11 +50,8 @@ fn effective_stages(k: Key) -> [Stage; 8]
 pub fn effective(k: Key) -> Key
     ensures { result ≡ effective k }
 {
-    let stages = effective_stages(k);
     Key {
-        stages: stages,
-        specular_add: k.specular_add,
-        projected: k.projected,
-        wide: k.wide,
+        stages: effective_stages(k),
+        ..k
     }
 }

@@ -1,8 +1,8 @@
 //! What a stage and its combiners say by themselves: textures, reads, fallback, bump, constants; and the count of active stages.
 //!
 //! A rule that rarely applies first tests for the rare argument, and returns early without it.
-ghost use Rattle.std.specs.Prelude.{◌≡◌};
-ghost use Rattle.cascade.specs.Keys.{textured, to_temp, active_count, reads_first, reads_second, selects, third, some, some_counted, reads, falls_back, is_bump_op, bump, alpha_from_colour, reads_constant, blends_by_factor, names_factor};
+ghost use Rattle.std.specs.Prelude.{◌≡◌, ℕ, Bool};
+ghost use Rattle.cascade.specs.Keys.{textured, to_temp, active_count, reads_first, reads_second, selects, some, some_counted, Tests, reads, falls_back, is_bump_op, bump, alpha_from_colour, reads_constant, blends_by_factor, names_factor};
 
 use combiners::codes::*;
 use combiners::ops::three_operands;
@@ -49,51 +49,45 @@ fn reads_second(op: u8) -> bool
     !((op == D3DTOP_DISABLE) | (op == D3DTOP_SELECTARG1))
 }
 
-fn selects(selector: u8, arg: u8) -> bool
+pub(crate) fn selects(selector: u8, arg: u8) -> bool
     ensures { result ≡ selects selector arg }
 {
     arg % SELECTORS == selector
 }
 
-// Argument 0 selects it, of an op that has one.
-fn third_selects(selector: u8, c: Combiner) -> bool
-    ensures { result ≡ third (selects selector) c }
+// Some argument that counts passes the test: the first and the second where the caller says so, and argument 0 of an op that has one.
+pub(crate) fn some_counted<F: Fn(u8) -> bool>(
+    c: Combiner,
+    first: bool,
+    second: bool,
+    test: F,
+) -> bool
+    requires { F.IsAlwaysCallable test }
+    ensures { (p : ℕ → Bool) → Tests (F.post test) p → result ≡ some_counted p first second c }
 {
-    three_operands(c.op) & selects(selector, c.arg0)
+    (first & test(c.arg1)) | ((second & test(c.arg2)) | (three_operands(c.op) & test(c.arg0)))
 }
 
-pub(crate) fn some_selects(selector: u8, c: Combiner) -> bool
-    ensures { result ≡ some (selects selector) c }
+pub(crate) fn some<F: Fn(u8) -> bool>(c: Combiner, test: F) -> bool
+    requires { F.IsAlwaysCallable test }
+    ensures { (p : ℕ → Bool) → Tests (F.post test) p → result ≡ some p c }
 {
-    selects(selector, c.arg1) | (selects(selector, c.arg2) | third_selects(selector, c))
+    some_counted(c, true, true, test)
 }
 
-// One of the arguments that count selects it: the first and the second where the caller says so, and argument 0 of an op that has one.
-pub(crate) fn some_counted_selects(selector: u8, first: bool, second: bool, c: Combiner) -> bool
-    ensures { result ≡ some_counted (selects selector) first second c }
-{
-    (first & selects(selector, c.arg1))
-        | ((second & selects(selector, c.arg2)) | third_selects(selector, c))
-}
-
+#[tactic(auto, unfolding(crate::specs::Keys::reads))]
 fn reads(selector: u8, c: Combiner) -> bool
     ensures { result ≡ reads selector c }
 {
-    if !some_selects(selector, c) {
-        return false;
-    }
-    let first = reads_first(c.op);
-    let second = reads_second(c.op);
-    some_counted_selects(selector, first, second, c)
+    let selected = |arg| selects(selector, arg);
+    some(c, selected) && some_counted(c, reads_first(c.op), reads_second(c.op), selected)
 }
 
+#[tactic(auto, unfolding(crate::specs::Keys::falls_back))]
 pub(crate) fn falls_back(textured: bool, c: Combiner) -> bool
     ensures { result ≡ falls_back textured c }
 {
-    if textured {
-        return false;
-    }
-    reads(D3DTA_TEXTURE, c)
+    !textured && reads(D3DTA_TEXTURE, c)
 }
 
 pub(crate) fn is_bump_op(op: u8) -> bool
@@ -102,54 +96,40 @@ pub(crate) fn is_bump_op(op: u8) -> bool
     (op == D3DTOP_BUMPENVMAP) | (op == D3DTOP_BUMPENVMAPLUMINANCE)
 }
 
+#[tactic(auto, unfolding(crate::specs::Keys::bump))]
 pub fn is_bump(s: Stage) -> bool
     ensures { result ≡ bump s }
 {
-    let c = s.colour;
-    if is_bump_op(c.op) {
-        return !falls_back(textured(s), c);
-    }
-    false
+    is_bump_op(s.colour.op) && !falls_back(textured(s), s.colour)
 }
 
+#[tactic(auto, unfolding(crate::specs::Keys::alpha_from_colour))]
 pub(crate) fn alpha_from_colour(s: Stage) -> bool
     ensures { result ≡ alpha_from_colour s }
 {
-    let c = s.colour;
-    if c.op == D3DTOP_DOTPRODUCT3 {
-        return !falls_back(textured(s), c);
-    }
-    false
+    s.colour.op == D3DTOP_DOTPRODUCT3 && !falls_back(textured(s), s.colour)
 }
 
+#[tactic(auto, unfolding(crate::specs::Keys::reads_constant))]
 pub(crate) fn reads_constant(s: Stage) -> bool
     ensures { result ≡ reads_constant s }
 {
-    let c = s.colour;
-    let a = s.alpha;
     let t = textured(s);
-    let colour = reads(D3DTA_CONSTANT, c);
-    let alpha = reads(D3DTA_CONSTANT, a);
-    if !(colour | alpha) {
-        return false;
-    }
-    (!falls_back(t, c) & colour) | (!alpha_from_colour(s) & (!falls_back(t, a) & alpha))
+    (reads(D3DTA_CONSTANT, s.colour) && !falls_back(t, s.colour))
+        || (reads(D3DTA_CONSTANT, s.alpha) && !alpha_from_colour(s) && !falls_back(t, s.alpha))
 }
 
 pub(crate) fn blends_by_factor(s: Stage) -> bool
     ensures { result ≡ blends_by_factor s }
 {
-    let c = s.colour;
-    let a = s.alpha;
-    (c.op == D3DTOP_BLENDFACTORALPHA) | (a.op == D3DTOP_BLENDFACTORALPHA)
+    (s.colour.op == D3DTOP_BLENDFACTORALPHA) | (s.alpha.op == D3DTOP_BLENDFACTORALPHA)
 }
 
+#[tactic(auto, unfolding(crate::specs::Keys::names_factor))]
 pub(crate) fn names_factor(s: Stage) -> bool
     ensures { result ≡ names_factor s }
 {
-    let c = s.colour;
-    let a = s.alpha;
-    let colour = some_selects(D3DTA_TFACTOR, c);
-    let alpha = some_selects(D3DTA_TFACTOR, a);
-    blends_by_factor(s) | (colour | ((a.op != D3DTOP_DISABLE) & alpha))
+    let factor = |arg| selects(D3DTA_TFACTOR, arg);
+    blends_by_factor(s)
+        | (some(s.colour, factor) | ((s.alpha.op != D3DTOP_DISABLE) & some(s.alpha, factor)))
 }

@@ -1,11 +1,11 @@
 //! The reading rule: what the expressions of a stage read, by its key alone.
-ghost use Rattle.std.specs.Prelude.{◌≡◌};
+ghost use Rattle.std.specs.Prelude.{◌≡◌, Bool};
 ghost use Rattle.combiners.specs.Combiners.{keeps_first, keeps_second, reads_own_texel};
-ghost use Rattle.cascade.specs.Reading.{keeps, reads_temp_by, reads_texel_by, alpha_written, reads_temp, reads_texel, lined, luminance};
+ghost use Rattle.values.specs.declared.Combiner.{Combiner};
+ghost use Rattle.cascade.specs.Reading.{keeps, reads_temp_by, reads_texel_by, alpha_written, some_expression, reads_temp, reads_texel, lined, luminance};
 
 use crate::keys::{
-    alpha_from_colour, falls_back, is_bump_op, some_counted_selects, some_selects, textured,
-    to_temp,
+    alpha_from_colour, falls_back, is_bump_op, selects, some, some_counted, textured, to_temp,
 };
 use combiners::codes::*;
 use combiners::ops::has_text;
@@ -23,15 +23,18 @@ fn keeps_second(textured: bool, op: u8) -> bool
     has_text(op) & (op != D3DTOP_SELECTARG1)
 }
 
+#[tactic(auto, unfolding(crate::specs::Reading::keeps))]
 fn keeps(selector: u8, textured: bool, c: Combiner) -> bool
     ensures { result ≡ keeps selector textured c }
 {
-    if !some_selects(selector, c) {
-        return false;
-    }
-    let first = keeps_first(textured, c.op);
-    let second = keeps_second(textured, c.op);
-    some_counted_selects(selector, first, second, c)
+    let selected = |arg| selects(selector, arg);
+    some(c, selected)
+        && some_counted(
+            c,
+            keeps_first(textured, c.op),
+            keeps_second(textured, c.op),
+            selected,
+        )
 }
 
 fn reads_own_texel(textured: bool, op: u8) -> bool
@@ -43,61 +46,50 @@ fn reads_own_texel(textured: bool, op: u8) -> bool
 fn reads_temp_by(textured: bool, c: Combiner) -> bool
     ensures { result ≡ reads_temp_by textured c }
 {
-    let read = keeps(D3DTA_TEMP, textured, c);
-    if !read {
-        return false;
-    }
-    !falls_back(textured, c) & read
+    keeps(D3DTA_TEMP, textured, c) && !falls_back(textured, c)
 }
 
 fn reads_texel_by(textured: bool, c: Combiner) -> bool
     ensures { result ≡ reads_texel_by textured c }
 {
-    let read = keeps(D3DTA_TEXTURE, textured, c) | reads_own_texel(textured, c.op);
-    if !read {
-        return false;
-    }
-    !falls_back(textured, c) & read
+    (keeps(D3DTA_TEXTURE, textured, c) | reads_own_texel(textured, c.op))
+        && !falls_back(textured, c)
 }
 
+#[tactic(auto, unfolding(crate::specs::Reading::alpha_written))]
 pub(crate) fn alpha_written(s: Stage) -> bool
     ensures { result ≡ alpha_written s }
 {
-    let a = s.alpha;
-    let computed = falls_back(textured(s), a) | !is_bump_op(a.op);
-    !alpha_from_colour(s) & ((a.op != D3DTOP_DISABLE) & computed)
+    let computed = falls_back(textured(s), s.alpha) | !is_bump_op(s.alpha.op);
+    !alpha_from_colour(s) & ((s.alpha.op != D3DTOP_DISABLE) & computed)
 }
 
+// Colour's expression reads it, or alpha's where there is one.
+fn some_expression<F: Fn(bool, Combiner) -> bool>(s: Stage, reads: F) -> bool
+    requires { F.IsAlwaysCallable reads }
+    ensures { (by : Bool → Combiner → Bool)
+        → ((t : Bool) (c : Combiner) (r : Bool) → F.post reads t c r → r ≡ by t c)
+        → result ≡ some_expression by s }
+{
+    let t = textured(s);
+    reads(t, s.colour) || (reads(t, s.alpha) && alpha_written(s))
+}
+
+#[tactic(auto, unfolding(crate::specs::Reading::reads_temp))]
 pub(crate) fn reads_temp(s: Stage) -> bool
     ensures { result ≡ reads_temp s }
 {
-    let c = s.colour;
-    let a = s.alpha;
-    let t = textured(s);
-    let colour = reads_temp_by(t, c);
-    let alpha = reads_temp_by(t, a);
-    if !(colour | alpha) {
-        return false;
-    }
-    colour | (alpha_written(s) & alpha)
+    some_expression(s, reads_temp_by)
 }
 
+#[tactic(auto, unfolding(crate::specs::Reading::reads_texel))]
 pub(crate) fn reads_texel(s: Stage) -> bool
     ensures { result ≡ reads_texel s }
 {
-    let c = s.colour;
-    let a = s.alpha;
-    let t = textured(s);
-    if reads_texel_by(t, c) {
-        return true;
-    }
-    let alpha = reads_texel_by(t, a);
-    if !alpha {
-        return false;
-    }
-    alpha_written(s) & alpha
+    some_expression(s, reads_texel_by)
 }
 
+#[tactic(auto, unfolding(crate::specs::Reading::lined))]
 pub fn is_lined(alive: bool, s: Stage) -> bool
     ensures { result ≡ lined alive s }
 {
@@ -107,6 +99,5 @@ pub fn is_lined(alive: bool, s: Stage) -> bool
 pub fn is_luminance(s: Stage) -> bool
     ensures { result ≡ luminance s }
 {
-    let c = s.colour;
-    c.op == D3DTOP_BUMPENVMAPLUMINANCE
+    s.colour.op == D3DTOP_BUMPENVMAPLUMINANCE
 }

@@ -10,11 +10,11 @@ use crate::keys::{
 };
 use crate::plain::is_plain;
 use crate::reading::{is_lined, is_luminance, reads_temp, reads_texel};
-use crate::warnings::{warned, warns_op};
+use crate::warnings::{warns_modifier, warns_op, warns_selector};
 use values::{Key, Stage};
 
 // What the stages say each by itself: the mask, the last constant row, whether the factor is named and TEMP read, and the stages that warn.
-#[derive(Clone, Copy)]
+#[derive(Clone, Copy, Default)]
 struct Facts {
     mask: u8,
     constant: u8,
@@ -26,21 +26,11 @@ struct Facts {
 }
 
 // What they say once it is known whether TEMP is live: whether the first is marked, all marks, and whether `bump_env` is read.
-#[derive(Clone, Copy)]
+#[derive(Clone, Copy, Default)]
 struct Marks {
     next: bool,
     marks: u8,
     bump_env: bool,
-}
-
-// n or 0.
-fn when(b: bool, n: u8) -> u8
-    ensures { (result ≡ cond b n 0) × (result ≤ n) }
-{
-    if b {
-        return n;
-    }
-    0
 }
 
 // The mask of the stages behind one, with that one's bit in front of theirs.
@@ -48,7 +38,7 @@ fn in_front(here: bool, behind: u8) -> u8
     requires { behind < 128 }
     ensures { result ≡ cond here 1 0 + 2 * behind }
 {
-    when(here, 1) + 2 * behind
+    u8::from(here) + 2 * behind
 }
 
 // The rows up to the last constant, of a later stage or of this one: row 0 is the factor's, row i + 1 the constant of stage i.
@@ -72,39 +62,30 @@ fn add_fact(f: Facts, s: Stage, i: u8) -> Facts
     if is_plain(s) {
         return Facts {
             mask: in_front(textured(s), f.mask),
-            constant: f.constant,
             factor: blends_by_factor(s) | f.factor,
-            live: f.live,
             op: in_front(warns_op(s), f.op),
             selector: in_front(false, f.selector),
             modifier: in_front(false, f.modifier),
+            ..f
         };
     }
-    let w = warned(s);
     Facts {
         mask: in_front(textured(s), f.mask),
         constant: last_constant(f.constant, s, i),
         factor: names_factor(s) | f.factor,
         live: (!is_bump(s) & reads_temp(s)) | f.live,
-        op: in_front(w.op, f.op),
-        selector: in_front(w.selector, f.selector),
-        modifier: in_front(w.modifier, f.modifier),
+        op: in_front(warns_op(s), f.op),
+        selector: in_front(warns_selector(s), f.selector),
+        modifier: in_front(warns_modifier(s), f.modifier),
     }
 }
 
+#[tactic(auto, using(crate::proofs::Active::count_le, crate::proofs::Walking::facts_none, crate::proofs::Walking::facts_small))]
 fn facts_of(k: Key, n: usize) -> Facts
     requires { n ≡ active_count k.stages }
     ensures { result ≡ facts_of 0 (active k.stages) }
 {
-    let mut f = Facts {
-        mask: 0,
-        constant: 0,
-        factor: false,
-        live: false,
-        op: 0,
-        selector: 0,
-        modifier: 0,
-    };
+    let mut f = Facts::default();
     for i in (0..n).rev() {
         f = add_fact(f, k.stages[i], i as u8);
     }
@@ -126,15 +107,12 @@ fn add_mark(m: Marks, s: Stage, alive: bool) -> Marks
     }
 }
 
+#[tactic(auto, using(crate::proofs::Active::count_le, crate::proofs::Walking::marks_none, crate::proofs::Walking::few_marks))]
 fn marks_from(k: Key, n: usize, alive: bool) -> Marks
     requires { n ≡ active_count k.stages }
     ensures { result ≡ marks_from alive (active k.stages) }
 {
-    let mut m = Marks {
-        next: false,
-        marks: 0,
-        bump_env: false,
-    };
+    let mut m = Marks::default();
     for i in (0..n).rev() {
         m = add_mark(m, k.stages[i], alive);
     }
@@ -147,7 +125,7 @@ fn rows(f: Facts) -> u8
     if f.constant != 0 {
         return f.constant;
     }
-    when(f.factor, 1)
+    u8::from(f.factor)
 }
 
 pub fn survey(k: Key) -> Survey

@@ -1,12 +1,15 @@
 -- Where no argument selects it none that the op keeps does; otherwise the two sides ask the same.
-use Rattle.std.proofs.Common.{sym, ◌∙◌}
+use Rattle.std.proofs.Common.{rules, sym, ◌∙◌}
+use Rattle.cascade.specs.Keys.{selects}
 use Rattle.cascade.specs.Reading.{keeps}
 use Rattle.cascade.proofs.Guards.{none_kept}
 use Rattle.cascade.proofs.reading.keeps.Goals as goal
 
-pub returns-then-not-some_selects : goal.returns-then-not-some_selects
-returns-then-not-some_selects c = sym (none_kept _ _ _ (sym c.some_selects.ensures ∙ c.if-not-some_selects.true))
-
-pub returns : goal.returns
+pub returns-then-some : goal.returns-then-some
 unfolding keeps
-returns c = rw (c.keeps_first-first.ensures, c.keeps_second-second.ensures) at c.some_counted_selects.ensures
+returns-then-some c =
+    c.some_counted.ensures (selects c.args.selector) (λ a r h. search rules) ∙ rw (c.keeps_first.ensures, c.keeps_second.ensures)
+
+pub returns-else-some : goal.returns-else-some
+returns-else-some c =
+    c.if-some.false ∙ sym (none_kept _ _ _ (sym (c.some.ensures (selects c.args.selector) (λ a r h. search rules)) ∙ c.if-some.false))

@@ -2,8 +2,7 @@
 use Rattle.std.proofs.Common.{◌≡◌, drop}
 use Rattle.cascade.specs.Keys.{active}
 use Rattle.cascade.specs.Walks.{facts_of}
-use Rattle.cascade.proofs.Walking.{Walk}
 use Rattle.cascade.proofs.walks.facts_of.Given as goal
 
 abbrev pub invariant-loop-i : goal.invariant-loop-i
-invariant-loop-i l = record { walk : Walk l.k.stages l.n l.i; facts : l.f ≡ facts_of l.i (drop l.i (active l.k.stages)) }
+invariant-loop-i l = l.f ≡ facts_of l.i (drop l.i (active l.fn.k.stages))

@@ -2,8 +2,7 @@
 use Rattle.std.proofs.Common.{◌≡◌, drop}
 use Rattle.cascade.specs.Keys.{active}
 use Rattle.cascade.specs.Walks.{marks_from}
-use Rattle.cascade.proofs.Walking.{Walk}
 use Rattle.cascade.proofs.walks.marks_from.Given as goal
 
 abbrev pub invariant-loop-i : goal.invariant-loop-i
-invariant-loop-i l = record { walk : Walk l.k.stages l.n l.i; marks : l.m ≡ marks_from l.alive (drop l.i (active l.k.stages)) }
+invariant-loop-i l = l.m ≡ marks_from l.alive (drop l.i (active l.fn.k.stages))

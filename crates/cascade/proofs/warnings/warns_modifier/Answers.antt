@@ -1,0 +1,9 @@
+-- The cause is an argument's.
+use Rattle.std.proofs.Common.{rules}
+use Rattle.combiners.specs.Warnings.{modifier_cause, unknown_modifier}
+use Rattle.cascade.specs.Walks.{gives, warns}
+use Rattle.cascade.proofs.warnings.warns_modifier.Goals as goal
+
+pub returns : goal.returns
+unfolding warns
+returns c = c.warned.ensures (gives modifier_cause) (λ k r h. search rules)

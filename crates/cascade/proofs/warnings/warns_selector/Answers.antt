@@ -1,0 +1,9 @@
+-- The cause is an argument's.
+use Rattle.std.proofs.Common.{rules}
+use Rattle.combiners.specs.Warnings.{selector_cause, unknown_selector}
+use Rattle.cascade.specs.Walks.{gives, warns}
+use Rattle.cascade.proofs.warnings.warns_selector.Goals as goal
+
+pub returns : goal.returns
+unfolding warns
+returns c = c.warned.ensures (gives selector_cause) (λ k r h. search rules)
