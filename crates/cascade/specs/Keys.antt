@@ -1,5 +1,5 @@
 -- Keys and the cascade: active stages, what an op reads, the unbound fallback, bump stages, the mask and the row count.
-use Rattle.std.specs.Prelude.{◌≡◌, ℕ, suc, ◌+◌, ◌*◌, Bool, false, not, ◌&&◌, ◌||◌, cond, List, [], ◌∷◌, eqb}
+use Rattle.std.specs.Prelude.{ℕ, suc, ◌+◌, ◌*◌, Bool, false, not, ◌&&◌, ◌||◌, cond, List, [], ◌∷◌, eqb}
 use Rattle.combiners.specs.Codes.{bit, selector, disable, select_arg1, select_arg2, blend_factor_alpha, bump_env_map, bump_env_map_luminance, dot_product3, texture, factor, constant}
 use Rattle.combiners.specs.Combiners.{three_operands}
 use Rattle.values.specs.declared.Combiner.{Combiner}
@@ -44,10 +44,6 @@ some f c = f c.arg1 || (f c.arg2 || third f c)
 -- a fact of one of the arguments that count: the first and the second where a rule says that they do, argument 0 where the op has it
 abbrev pub some_counted : (ℕ → Bool) → Bool → Bool → Combiner → Bool
 some_counted f first second c = (first && f c.arg1) || ((second && f c.arg2) || third f c)
-
--- a closure that answers as the test p; only contracts of private functions cite it
-abbrev pub Tests : (ℕ → Bool → Type 0) → (ℕ → Bool) → Type 0
-Tests answers p = (a : ℕ) (r : Bool) → answers a r → r ≡ p a
 
 -- the op reads an argument that selects k
 unfoldable pub reads : ℕ → Combiner → Bool

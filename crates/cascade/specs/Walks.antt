@@ -1,5 +1,5 @@
--- What the walks over the stages carry from the last active stage to the first. Only contracts of private functions cite it: it need not be believed.
-use Rattle.std.specs.Prelude.{ℕ, ◌+◌, ◌*◌, ◌<◌, Bool, not, ◌&&◌, ◌||◌, cond, List, eqb}
+-- What the walks over the stages carry from the last active stage to the first, and what a closure tests. Only contracts of private functions cite it: it need not be believed.
+use Rattle.std.specs.Prelude.{◌≡◌, ℕ, ◌+◌, ◌*◌, ◌<◌, Bool, not, ◌&&◌, ◌||◌, cond, List, eqb}
 use Rattle.combiners.specs.Warnings.{Cause, op_cause, selector_cause, modifier_cause, without_text, unknown_selector, unknown_modifier}
 use Rattle.cascade.specs.Keys.{textured, some, bump, stages_where, mask_of, reads_constant, names_factor, last_constant, any_factor}
 use Rattle.cascade.specs.Reading.{reads_temp, reads_texel, live, lined, marked, luminance, reads_bump_env}
@@ -9,6 +9,10 @@ use Rattle.values.specs.declared.Combiner.{Combiner}
 use Rattle.values.specs.declared.Stage.{Stage}
 use Rattle.cascade.specs.declared.walks.Facts.{Facts}
 use Rattle.cascade.specs.declared.walks.Marks.{Marks}
+
+-- a closure answers as the test p
+abbrev pub Tests : {A : Type 0} → (A → Bool → Type 0) → (A → Bool) → Type 0
+Tests {A} answers p = (a : A) (r : Bool) → answers a r → r ≡ p a
 
 -- a combiner gives a cause
 abbrev pub gives : Cause → Combiner → Bool

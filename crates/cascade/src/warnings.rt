@@ -4,7 +4,7 @@
 ghost use Rattle.std.specs.Prelude.{◌≡◌, Bool};
 ghost use Rattle.combiners.specs.Warnings.{op_cause, selector_cause, modifier_cause};
 ghost use Rattle.cascade.specs.Warnings.{applies_colour, applies_alpha};
-ghost use Rattle.cascade.specs.Walks.{gives, warned, warns};
+ghost use Rattle.cascade.specs.Walks.{Tests, gives, warned, warns};
 ghost use Rattle.values.specs.declared.Combiner.{Combiner};
 
 use crate::keys::{falls_back, is_bump, some, textured};
@@ -29,9 +29,7 @@ fn applies_alpha(s: Stage) -> bool
 // A cause that a combiner gives counts where the stage applies that combiner.
 fn warned<F: Fn(Combiner) -> bool>(s: Stage, gives: F) -> bool
     requires { F.IsAlwaysCallable gives }
-    ensures { (p : Combiner → Bool)
-        → ((c : Combiner) (r : Bool) → F.post gives c r → r ≡ p c)
-        → result ≡ warned p s }
+    ensures { (p : Combiner → Bool) → Tests (F.post gives) p → result ≡ warned p s }
 {
     (gives(s.colour) && applies_colour(s)) || (gives(s.alpha) && applies_alpha(s))
 }

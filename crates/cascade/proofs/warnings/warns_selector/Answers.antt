@@ -1,6 +1,6 @@
 -- The cause is an argument's.
 use Rattle.std.proofs.Common.{rules}
-use Rattle.combiners.specs.Warnings.{selector_cause, unknown_selector}
+use Rattle.combiners.specs.Warnings.{selector_cause}
 use Rattle.cascade.specs.Walks.{gives, warns}
 use Rattle.cascade.proofs.warnings.warns_selector.Goals as goal
 
