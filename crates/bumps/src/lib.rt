@@ -21,7 +21,7 @@ fn put_bump_row(out: &mut [u8], at: usize, k: u8) -> usize
     ensures { Wrote out.old at out.new result (bump_row k) }
 {
     let mut p = put(out, at, b"bump_env[");
-    p = put_decimal(out, p, k);
+    p = put_decimal(out, p, k as usize);
     put(out, p, b"]")
 }
 

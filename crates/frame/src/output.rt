@@ -128,7 +128,7 @@ fn put_return(out: &mut [u8], at: usize, v: Variant) -> usize
 {
     if flag(v, SAMPLE_MASK) {
         let mut p = put(out, at, b"    return FfPsOut { oC0, ");
-        p = put_decimal(out, p, v.sample_mask);
+        p = put_decimal(out, p, v.sample_mask as usize);
         put(out, p, b"u };\n}\n")
     } else {
         put(out, at, b"    return oC0;\n}\n")

@@ -16,17 +16,6 @@ use Rattle.values.specs.declared.Refusal.{Refusal}
 use Rattle.printout.specs.Program.{emit_text, emit_line, end_text, end_line, refused_text, refused_line}
 use Rattle.printout.specs.Program.{line_after}
 
-pub digits_one : {l l' : List ℕ} {a a' : ℕ} (d n : ℕ) → (d ≡ 0 → ⊥) → n < 10 → Wrote l a l' a' (digit (n % 10)) → Wrote l a l' a' (decimal_of d n)
-unfolding decimal_of
-digits_one zero n f h w = absurd (f refl)
-digits_one (suc d) n f h w = pick_true (lt-ltb _ _ h) (one_digit n h w)
-
-pub digits_more : {l l' : List ℕ} {a a' : ℕ} (d n : ℕ) → (d ≡ 0 → ⊥) → 10 ≤ n → Wrote l a l' a' (decimal_of (d - 1) (n / 10) ⊕ digit (n % 10 % 10)) →
-    Wrote l a l' a' (decimal_of d n)
-unfolding decimal_of
-digits_more zero n f h w = absurd (f refl)
-digits_more (suc d) n f h w = let e : suc d - 1 ≡ d = omega arith in let m : n % 10 % 10 ≡ n % 10 = omega arith in pick_false (le-ltb _ _ h) (rw (e, m) at w)
-
 one_more : (b : Bool) (d m k : ℕ) (x : List ℕ) → length x ≤ d → length (cond b (m ∷ []) (x ++ (k ∷ []))) ≤ suc d
 one_more true d m k x h = omega arith
 one_more false d m k x h = simp length-append (omega arith)

@@ -1,6 +1,6 @@
 -- The laws of writing: one text behind another is the two joined; a text that fits is written whole; which of two texts; a text's length.
-use Prim.Native.Nat.{ℕ, zero, suc, ◌+◌, ◌%◌, ◌<◌, ◌≤◌}
-use mathlib.Core.Bool.{Bool, true, false}
+use Prim.Native.Nat.{ℕ, zero, suc, ◌+◌, ◌/◌, ◌%◌, ◌^◌, ◌<◌, ◌≤◌}
+use mathlib.Core.Bool.{Bool, true, false, cond}
 use mathlib.Core.Path.{◌≡◌, refl, ap, sym, subst, ◌∙◌}
 use mathlib.Core.List.{List, [], ◌∷◌, ◌++◌, append_assoc}
 use mathlib.Core.Logic.{by_cases}
@@ -8,10 +8,10 @@ use native.Mathlib.Omega.{arith}
 use native.Mathlib.Nat.{add-zero, zero-add}
 use native.Mathlib.Decide.{dec_le}
 use borrow.Author.Tests.{ne_eqb, le-leb, lt-leb, le-ltb, lt-ltb}
-use lib.Dec.{eqb, eqb→eq}
-use lib.ListN.{length, drop, get_or, set, length-append}
+use lib.Dec.{eqb, eqb→eq, ltb}
+use lib.ListN.{length, drop, set, length-append}
 use lib.Seq.{sets, sets-eq}
-use Rattle.text.specs.Text.{Text, raw, ◌⊕◌, pick, flat, size, digit}
+use Rattle.text.specs.Text.{Text, raw, ◌⊕◌, pick, flat, size, digit, decimal, decimal_of}
 use Rattle.text.specs.Marks.{filled_byte, filled}
 use Rattle.text.specs.Buffer.{Placed, Wrote}
 
@@ -25,16 +25,6 @@ flat-length (pick false s t) = flat-length t
 pub sets-append : (s t l : List ℕ) (i : ℕ) → sets l i (s ++ t) ≡ sets (sets l i s) (i + length s) t
 sets-append [] t l i = rw add-zero
 sets-append (x ∷ s) t l i = sets-append s t (set l i x) (suc i) ∙ ap (λ (k : ℕ). sets (sets (set l i x) (suc i) s) k t) (omega arith)
-
--- a literal filled, byte by byte
-pub length-filled : (d : ℕ) (s : List ℕ) → length (filled d s) ≡ length s
-length-filled d [] = refl
-length-filled d (b ∷ s) = ap suc (length-filled d s)
-
-pub get_or-filled : (d : ℕ) (s : List ℕ) (i : ℕ) → i < length s → get_or (filled d s) i 0 ≡ filled_byte d (get_or s i 0)
-get_or-filled d [] i h = elim h [ ]
-get_or-filled d (b ∷ s) zero h = refl
-get_or-filled d (b ∷ s) (suc i) h = get_or-filled d s i (omega arith)
 
 -- a mark filled with itself is left
 kept_byte : (b : ℕ) (t : Bool) → eqb b 35 ≡ t → filled_byte 35 b ≡ b
@@ -101,18 +91,9 @@ pick_true e w = rw e (record { kept = w.kept; fits = w.fits; over = w.over })
 pub pick_false : {l l' : List ℕ} {a a' : ℕ} {b : Bool} {s t : Text} → b ≡ false → Wrote l a l' a' t → Wrote l a l' a' (pick b s t)
 pick_false e w = rw e (record { kept = w.kept; fits = w.fits; over = w.over })
 
--- one piece of the same bytes; which of two pieces; no piece at all
+-- one piece of the same bytes
 pub same_piece : {l l' : List ℕ} {a a' : ℕ} {s t : Text} → flat s ≡ flat t → Placed l a l' a' s → Placed l a l' a' t
 same_piece e w = record { written = same e w.written; left = rw e at w.left }
-
-pub first_piece : {l l' : List ℕ} {a a' : ℕ} {b : Bool} {s t : Text} → b ≡ true → Placed l a l' a' s → Placed l a l' a' (pick b s t)
-first_piece e w = rw e (record { written = pick_true refl w.written; left = w.left })
-
-pub second_piece : {l l' : List ℕ} {a a' : ℕ} {b : Bool} {s t : Text} → b ≡ false → Placed l a l' a' t → Placed l a l' a' (pick b s t)
-second_piece e w = rw e (record { written = pick_false refl w.written; left = w.left })
-
-pub no_piece : (l : List ℕ) (at : ℕ) → Placed l at l at (raw [])
-no_piece l at = record { written = nothing l at; left = λ h. refl }
 
 -- a text that depends on a test
 pub by_test : {l l' : List ℕ} {a a' : ℕ} {s : Text} (t : Bool → Text) (b c : Bool) → b ≡ c → flat s ≡ flat (t c) → Wrote l a l' a' s → Wrote l a l' a' (t b)
@@ -126,9 +107,20 @@ case t x y l l' a a' e w = rw e w
 pub eqb_at : (x m n : ℕ) (b : Bool) → x ≡ m → eqb m n ≡ b → eqb x n ≡ b
 eqb_at x m n b e f = rw e f
 
--- the last digit of a number below ten is the number
-pub one_digit : {l l' : List ℕ} {a a' : ℕ} (n : ℕ) → n < 10 → Wrote l a l' a' (digit (n % 10)) → Wrote l a l' a' (digit n)
-one_digit n h w = let e : n % 10 ≡ n = omega arith in rw e at w
+-- a number has no more digits for being allowed one more than it has
+enough : (d n : ℕ) → n < 10 ^ suc d → flat (decimal_of (suc (suc d)) n) ≡ flat (decimal_of (suc d) n)
+unfolding decimal_of
+enough zero n h = rw (lt-ltb n 10 h)
+enough (suc d) n h = ap (λ (l : List ℕ). cond (ltb n 10) ((48 + n) ∷ []) (l ++ ((48 + n % 10) ∷ []))) (enough d (n / 10) (omega arith))
+
+-- a number below ten is its digit, and another has its last digit behind those of its tenth part
+pub one_digit : {l l' : List ℕ} {a a' : ℕ} (n : ℕ) → n < 10 → Wrote l a l' a' (digit n) → Wrote l a l' a' (decimal n)
+unfolding decimal_of
+one_digit n h w = pick_true (lt-ltb _ _ h) w
+
+pub last_digit : {l l' : List ℕ} {a a' : ℕ} (n : ℕ) → 10 ≤ n → n < 2 ^ 64 → Wrote l a l' a' (decimal (n / 10) ⊕ digit (n % 10)) → Wrote l a l' a' (decimal n)
+unfolding decimal_of
+last_digit n h k w = pick_false (le-ltb _ _ h) (same (ap (λ (l : List ℕ). l ++ ((48 + n % 10) ∷ [])) (enough 18 (n / 10) (omega arith))) w)
 
 -- what `search` is handed at the return of a function that writes text
 pub ruleset texts = (◌⨾◌, nothing, pick_true, pick_false, eqb_at, ne_eqb, le-leb, lt-leb, le-ltb, lt-ltb)

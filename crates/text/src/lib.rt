@@ -13,8 +13,9 @@ ghost use Rattle.text.specs.Buffer.{Placed, Wrote};
 // In a literal, the place of a digit.
 const MARK: u8 = b'#';
 
-// The place that is answered for a piece that does not fit: the greatest number, which no buffer is as long as.
-const OUTSIDE: usize = 18446744073709551615;
+// The place that is answered for a piece that does not fit, since no buffer is as long. It is no `Option`: each writer would test it behind each piece,
+// where now the next piece does not fit either.
+const OUTSIDE: usize = usize::MAX;
 
 // A byte of a literal, or the digit where it is a mark.
 fn filled_byte(digit: u8, b: u8) -> u8
@@ -31,10 +32,8 @@ fn copy(out: &mut [u8], at: usize, s: &[u8], digit: u8)
     requires { at + length s.now ≤ length out.old }
     ensures { out.new ≡ sets out.old at (filled digit s.now) }
 {
-    let mut i = 0;
-    while i < s.len() {
-        out[at + i] = filled_byte(digit, s[i]);
-        i += 1;
+    for (i, b) in s.iter().enumerate() {
+        out[at + i] = filled_byte(digit, *b);
     }
 }
 
@@ -42,10 +41,7 @@ fn copy(out: &mut [u8], at: usize, s: &[u8], digit: u8)
 fn put_filled(out: &mut [u8], at: usize, s: &[u8], digit: u8) -> usize
     ensures { Placed out.old at out.new result (raw (filled digit s.now)) }
 {
-    if out.len() < s.len() {
-        return OUTSIDE;
-    }
-    if out.len() - s.len() < at {
+    if out.len() < s.len() || out.len() - s.len() < at {
         return OUTSIDE;
     }
     copy(out, at, s, digit);
@@ -88,27 +84,20 @@ pub fn put_when(out: &mut [u8], at: usize, there: bool, s: &[u8]) -> usize
     at
 }
 
-// The last decimal digit of n.
-pub fn put_digit(out: &mut [u8], at: usize, n: u8) -> usize
-    ensures { Placed out.old at out.new result (digit (n % 10)) }
+fn put_digit(out: &mut [u8], at: usize, n: usize) -> usize
+    requires { n < 10 }
+    ensures { Placed out.old at out.new result (digit n) }
 {
-    let b = [b'0' + n % 10];
-    put(out, at, &b)
+    put(out, at, &[b'0' + n as u8])
 }
 
 // A number in decimal.
-pub fn put_decimal(out: &mut [u8], at: usize, n: u8) -> usize
+pub fn put_decimal(out: &mut [u8], at: usize, n: usize) -> usize
     ensures { Wrote out.old at out.new result (decimal n) }
 {
-    let tens = n / 10;
     if n < 10 {
         return put_digit(out, at, n);
     }
-    if tens < 10 {
-        let a = put_digit(out, at, tens);
-        return put_digit(out, a, n);
-    }
-    let a = put_digit(out, at, tens / 10);
-    let b = put_digit(out, a, tens);
-    put_digit(out, b, n)
+    let a = put_decimal(out, at, n / 10);
+    put_digit(out, a, n % 10)
 }

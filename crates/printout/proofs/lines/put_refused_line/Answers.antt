@@ -10,8 +10,8 @@ returns c =
     c.put-a.ensures.written
     ⨾ c.put_decimal-b.ensures
     ⨾ c.put-c.ensures.written
-    ⨾ c.put_number-d.ensures
+    ⨾ c.put_decimal-d.ensures
     ⨾ c.put.ensures.written
     in
-    let line = refused_line_lem _ _ (rw c.number.ensures at w) (search rules) in
+    let line = refused_line_lem _ _ (rw c.from.ensures at w) (search rules) in
     record { length = line.0; line = line.1 }
