@@ -6,7 +6,7 @@ use crate::keys::{alpha_from_colour, falls_back, is_bump, is_bump_op, textured};
 use crate::{Alpha, Expressions};
 use combiners::arguments::arg_of;
 use combiners::codes::*;
-use combiners::ops::{op_of, three_operands};
+use combiners::ops::three_operands;
 use combiners::{Arg, Expression, Op, Source};
 use values::{Combiner, Stage};
 
@@ -47,7 +47,7 @@ fn combined(textured: bool, c: Combiner) -> Expression
     ensures { result ≡ combined textured c }
 {
     Expression {
-        op: op_of(c.op),
+        op: Op::from(c.op),
         arg1: arg_of(c.arg1, textured),
         arg2: arg_of(c.arg2, textured),
         arg0: arg0_of(textured, c),
