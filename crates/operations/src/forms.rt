@@ -82,33 +82,23 @@ pub fn form_of(op: Op, textured: bool) -> Form
             Joining::TimesDiffuseAlphaPlus,
             Ending::TimesInverseDiffuseAlpha,
         ),
-        Op::BlendTextureAlpha => {
-            if textured {
-                Form::Both(
-                    Opening::Bracket,
-                    Joining::TimesTexelAlphaPlus,
-                    Ending::TimesInverseTexelAlpha,
-                )
-            } else {
-                Form::Arg2
-            }
-        }
+        Op::BlendTextureAlpha if textured => Form::Both(
+            Opening::Bracket,
+            Joining::TimesTexelAlphaPlus,
+            Ending::TimesInverseTexelAlpha,
+        ),
+        Op::BlendTextureAlpha => Form::Arg2,
         Op::BlendFactorAlpha => Form::Both(
             Opening::Bracket,
             Joining::TimesFactorAlphaPlus,
             Ending::TimesInverseFactorAlpha,
         ),
-        Op::BlendTextureAlphaPM => {
-            if textured {
-                Form::Both(
-                    Opening::Saturate,
-                    Joining::Plus,
-                    Ending::TimesInverseTexelAlpha,
-                )
-            } else {
-                Form::Both(Opening::Saturate, Joining::Plus, Ending::Bracket)
-            }
-        }
+        Op::BlendTextureAlphaPM if textured => Form::Both(
+            Opening::Saturate,
+            Joining::Plus,
+            Ending::TimesInverseTexelAlpha,
+        ),
+        Op::BlendTextureAlphaPM => Form::Both(Opening::Saturate, Joining::Plus, Ending::Bracket),
         Op::BlendCurrentAlpha => Form::Both(
             Opening::Bracket,
             Joining::TimesCurrentAlphaPlus,

@@ -1,5 +1,5 @@
 //! The words of the table, written: each literal in its own arm, so that its length is a constant to the compiler.
-ghost use Rattle.std.specs.Prelude.{◌<◌};
+ghost use Rattle.text.specs.Text.{raw, ◌⊕◌};
 ghost use Rattle.text.specs.Buffer.{Wrote};
 ghost use Rattle.combiners.specs.Arguments.{arg_text};
 ghost use Rattle.operations.specs.Forms.{opening_text, joining_text, ending_text};
@@ -8,9 +8,25 @@ use crate::forms::{Ending, Joining, Opening};
 use combiners::Arg;
 use combiners::arguments::put_arg;
 use text::{put, put_numbered};
+use values::StageIndex;
 
-pub fn put_opening(out: &mut [u8], at: usize, w: Opening, z: Arg, stage: u8) -> usize
-    requires { stage < 8 }
+// An argument between two pieces of text.
+fn put_around(
+    out: &mut [u8],
+    at: usize,
+    before: &[u8],
+    x: Arg,
+    behind: &[u8],
+    stage: StageIndex,
+) -> usize
+    ensures { Wrote out.old at out.new result (raw before.now ⊕ arg_text stage x ⊕ raw behind.now) }
+{
+    let mut p = put(out, at, before);
+    p = put_arg(out, p, x, stage);
+    put(out, p, behind)
+}
+
+pub fn put_opening(out: &mut [u8], at: usize, w: Opening, z: Arg, stage: StageIndex) -> usize
     ensures { Wrote out.old at out.new result (opening_text (arg_text stage z) w) }
 {
     match w {
@@ -21,21 +37,19 @@ pub fn put_opening(out: &mut [u8], at: usize, w: Opening, z: Arg, stage: u8) -> 
         Opening::SaturateTwiceSum => put(out, at, b"saturate(2.0 * ("),
         Opening::SaturateInverse => put(out, at, b"saturate((1.0 - "),
         Opening::Dot => put(out, at, b"float4(saturate(4.0 * dot(("),
-        Opening::SaturateArg0Plus => {
-            let mut p = put(out, at, b"saturate(");
-            p = put_arg(out, p, z, stage);
-            put(out, p, b" + ")
-        }
-        Opening::BracketArg0Times => {
-            let mut p = put(out, at, b"(");
-            p = put_arg(out, p, z, stage);
-            put(out, p, b" * ")
-        }
+        Opening::SaturateArg0Plus => put_around(out, at, b"saturate(", z, b" + ", stage),
+        Opening::BracketArg0Times => put_around(out, at, b"(", z, b" * ", stage),
     }
 }
 
-pub fn put_joining(out: &mut [u8], at: usize, w: Joining, x: Arg, z: Arg, stage: u8) -> usize
-    requires { stage < 8 }
+pub fn put_joining(
+    out: &mut [u8],
+    at: usize,
+    w: Joining,
+    x: Arg,
+    z: Arg,
+    stage: StageIndex,
+) -> usize
     ensures { Wrote out.old at out.new result (joining_text stage (arg_text stage x) (arg_text stage z) w) }
 {
     match w {
@@ -43,31 +57,25 @@ pub fn put_joining(out: &mut [u8], at: usize, w: Joining, x: Arg, z: Arg, stage:
         Joining::Plus => put(out, at, b" + "),
         Joining::Minus => put(out, at, b" - "),
         Joining::TimesDiffuseAlphaPlus => put(out, at, b" * in.color0.a + "),
-        Joining::TimesTexelAlphaPlus => put_numbered(out, at, b" * t#.a + ", stage),
+        Joining::TimesTexelAlphaPlus => put_numbered(out, at, b" * t#.a + ", stage.number()),
         Joining::TimesFactorAlphaPlus => put(out, at, b" * ps_c[0].a + "),
         Joining::TimesCurrentAlphaPlus => put(out, at, b" * current.a + "),
-        Joining::PlusArg1AlphaTimes => {
-            let mut p = put(out, at, b" + (");
-            p = put_arg(out, p, x, stage);
-            put(out, p, b").a * ")
-        }
-        Joining::PlusInverseArg1AlphaTimes => {
-            let mut p = put(out, at, b" + (1.0 - (");
-            p = put_arg(out, p, x, stage);
-            put(out, p, b").a) * ")
-        }
+        Joining::PlusArg1AlphaTimes => put_around(out, at, b" + (", x, b").a * ", stage),
+        Joining::PlusInverseArg1AlphaTimes => put_around(
+            out,
+            at,
+            b" + (1.0 - (",
+            x,
+            b").a) * ",
+            stage,
+        ),
         Joining::BracketTimes => put(out, at, b") * "),
         Joining::Dot => put(out, at, b").rgb - 0.5, ("),
-        Joining::PlusInverseArg0Times => {
-            let mut p = put(out, at, b" + (1.0 - ");
-            p = put_arg(out, p, z, stage);
-            put(out, p, b") * ")
-        }
+        Joining::PlusInverseArg0Times => put_around(out, at, b" + (1.0 - ", z, b") * ", stage),
     }
 }
 
-pub fn put_ending(out: &mut [u8], at: usize, w: Ending, x: Arg, stage: u8) -> usize
-    requires { stage < 8 }
+pub fn put_ending(out: &mut [u8], at: usize, w: Ending, x: Arg, stage: StageIndex) -> usize
     ensures { Wrote out.old at out.new result (ending_text stage (arg_text stage x) w) }
 {
     match w {
@@ -75,19 +83,16 @@ pub fn put_ending(out: &mut [u8], at: usize, w: Ending, x: Arg, stage: u8) -> us
         Ending::MinusHalf => put(out, at, b" - 0.5)"),
         Ending::MinusHalfSum => put(out, at, b" - 0.5))"),
         Ending::TimesInverseDiffuseAlpha => put(out, at, b" * (1.0 - in.color0.a))"),
-        Ending::TimesInverseTexelAlpha => put_numbered(out, at, b" * (1.0 - t#.a))", stage),
+        Ending::TimesInverseTexelAlpha => put_numbered(
+            out,
+            at,
+            b" * (1.0 - t#.a))",
+            stage.number(),
+        ),
         Ending::TimesInverseFactorAlpha => put(out, at, b" * (1.0 - ps_c[0].a))"),
         Ending::TimesInverseCurrentAlpha => put(out, at, b" * (1.0 - current.a))"),
-        Ending::TimesInverseArg1 => {
-            let mut p = put(out, at, b" * (1.0 - ");
-            p = put_arg(out, p, x, stage);
-            put(out, p, b"))")
-        }
-        Ending::PlusArg1Alpha => {
-            let mut p = put(out, at, b" + (");
-            p = put_arg(out, p, x, stage);
-            put(out, p, b").a)")
-        }
+        Ending::TimesInverseArg1 => put_around(out, at, b" * (1.0 - ", x, b"))", stage),
+        Ending::PlusArg1Alpha => put_around(out, at, b" + (", x, b").a)", stage),
         Ending::Dot => put(out, at, b").rgb - 0.5)))"),
     }
 }
