@@ -1,17 +1,13 @@
 -- The active stages are the first ones, as many as the count says; a walk over them goes by the rest of the list.
 use Prim.Native.Nat.{ℕ, suc, ◌+◌, ◌<◌, ◌≤◌}
 use mathlib.Core.Bool.{Bool, true, false, cond}
-use mathlib.Core.Path.{◌≡◌, refl, sym, ap, ◌∙◌}
+use mathlib.Core.Path.{◌≡◌, refl, ap, ◌∙◌}
 use mathlib.Core.List.{List, [], ◌∷◌}
 use native.Mathlib.Omega.{arith}
-use native.Mathlib.Numerals.{add-one, one-add}
+use native.Mathlib.Numerals.{add-one}
+use borrow.Author.Tests.{ne_eqb}
 use lib.Dec.{eqb}
 use lib.ListN.{length, take, drop, get_or, drop_of_length-le}
-use Rattle.std.specs.Prelude.{Some, None, nat_lt}
-use Rattle.std.proofs.lemmas.Bool.Decides.{nat_tests}
-use Rattle.std.specs.Option.{unwrap_or}
-use Rattle.std.specs.List.{position, position_or_len}
-use Rattle.std.proofs.lemmas.List.Recursion.{is_position_or_len}
 use lib.Seq.{drop-cons, get_or-take, length-take-le}
 use Rattle.combiners.specs.Codes.{disable}
 use Rattle.cascade.specs.Keys.{active, active_count}
@@ -55,16 +51,16 @@ pub past : (l : List Stage) (i : ℕ) → active_count l ≤ i → drop i (activ
 past l i h =
     rw (active-take l) (drop_of_length-le (take (active_count l) l) {i = i} (rw (length-take-le (active_count l) l (count_le l)) h))
 
-abbrev pub disabled : Stage → Bool
-disabled s = eqb s.colour.op disable
-
-count_place : (l : List Stage) → active_count l ≡ position_or_len disabled l
+-- the count, as far as it has come
+pub over : (l : List Stage) (i : ℕ) → length l ≤ i → active_count (drop i l) ≡ 0
 unfolding active_count
-count_place l = is_position_or_len active_count disabled refl (λ s r. ap (λ (n : ℕ). cond (disabled s) 0 n) (sym (one-add (active_count r)))) l
+over l i h = rw (drop_of_length-le l h)
 
--- as many as stand before the first that is disabled
-pub first_disabled : (l : List Stage) → unwrap_or (position disabled l) (length l) ≡ active_count l
-first_disabled l = rw (count_place l) (go (position_or_len disabled l) (rw (← count_place l) (count_le l)))
-  where
-    go : (i : ℕ) → i ≤ length l → unwrap_or (cond (nat_lt i (length l)) (Some i) None) (length l) ≡ i
-    go i h = grind (arith, nat_tests)
+pub off : (l : List Stage) (i : ℕ) (d : Stage) → i < length l → (get_or l i d).colour.op ≡ disable → active_count (drop i l) ≡ 0
+unfolding active_count
+off l i d h e = rw (drop-cons l i d h, e)
+
+pub on : (l : List Stage) (i : ℕ) (d : Stage) → i < length l → ((get_or l i d).colour.op ≡ disable → ⊥)
+    → active_count (drop i l) ≡ suc (active_count (drop (i + 1) l))
+unfolding active_count
+on l i d h e = rw (add-one, drop-cons l i d h, ne_eqb _ _ e)

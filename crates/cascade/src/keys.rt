@@ -32,10 +32,19 @@ pub fn to_temp(s: Stage) -> bool
 pub(crate) fn active_count(k: Key) -> usize
     ensures { result ≡ active_count k.stages }
 {
-    k.stages
-        .iter()
-        .position(|s| s.colour.op == D3DTOP_DISABLE)
-        .unwrap_or(STAGES)
+    // A rule of the project keeps this form: the count is what a loop yields by break (DECISIONS, "Forms by place").
+    let mut i = 0;
+    let n = loop {
+        if i == STAGES {
+            break STAGES;
+        }
+        let c = k.stages[i].colour;
+        if c.op == D3DTOP_DISABLE {
+            break i;
+        }
+        i += 1;
+    };
+    n
 }
 
 fn reads_first(op: u8) -> bool

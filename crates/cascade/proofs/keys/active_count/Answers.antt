@@ -1,16 +1,17 @@
--- The place of the first disabled stage, or 8 where there is none, is the count.
-use Rattle.std.proofs.Common.{rules, ◌≡◌, length, arith, ◌∙◌, position}
-use borrow.Author.Tests.{tests}
-use Rattle.std.proofs.lemmas.Iterator.{YieldsList-from_slice}
-use Rattle.std.proofs.lemmas.Iterator.Search.{position_from_yields_List}
-use Rattle.values.specs.declared.Stage.{Stage}
-use Rattle.cascade.proofs.Active.{disabled, first_disabled}
+-- One stage more is active, or the search ends here: the count is i and what is left of the list.
+use Rattle.std.proofs.Common.{arith}
+use Rattle.cascade.proofs.Active.{over, off, on}
 use Rattle.cascade.proofs.keys.active_count.Goals as goal
 
-pub returns : goal.returns
-returns c =
-    let l = c.args.k.stages in
-    let eight : length l ≡ 8 = omega arith in
-    let place : c.position.result ≡ position disabled l =
-    position_from_yields_List disabled _ _ c.position.result c.position.ensures.ran (YieldsList-from_slice {A = Stage} l cc) (λ x b q k. search (rules, tests)) in
-    c.unwrap_or.ensures ∙ rw (place, ← eight) (first_disabled l)
+pub loop-i-preserved : goal.loop-i-preserved
+loop-i-preserved c =
+    let v = c.loop-i.invariant in
+    let more = on c.args.k.stages c.loop-i.i _ (omega arith) c.if-c-eq-D3DTOP_DISABLE.false in
+    record { within = omega arith; eight = v.eight; counted = omega (arith, more, v.counted) }
+
+pub returns-then-i-eq-STAGES : goal.returns-then-i-eq-STAGES
+returns-then-i-eq-STAGES c = omega (arith, over c.args.k.stages c.loop-i.i (omega arith), c.loop-i.invariant.counted)
+
+pub returns-then-c-eq-D3DTOP_DISABLE : goal.returns-then-c-eq-D3DTOP_DISABLE
+returns-then-c-eq-D3DTOP_DISABLE c =
+    omega (arith, off c.args.k.stages c.loop-i.i _ (omega arith) c.if-c-eq-D3DTOP_DISABLE.true, c.loop-i.invariant.counted)
