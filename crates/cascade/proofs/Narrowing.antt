@@ -4,6 +4,7 @@ use mathlib.Core.Bool.{Bool, true, false, ◌||◌, cond, true≢false}
 use mathlib.Core.Path.{◌≡◌, refl}
 use mathlib.Core.List.{List, [], ◌∷◌, map}
 use lib.ListN.{length, length-map}
+use Rattle.std.proofs.lemmas.Bool.{or_parts}
 use Rattle.combiners.specs.Codes.{pre_modulate}
 use Rattle.combiners.specs.Combiners.{three_operands}
 use Rattle.cascade.specs.Effective.{narrow_op, narrow_stage, effective_stages, any_of_three, effective}
@@ -41,13 +42,9 @@ narrow_alike : (l : List Stage) → any_of_three l ≡ false → map narrow_stag
 unfolding any_of_three
 narrow_alike [] e = refl
 narrow_alike (s ∷ r) e =
-    let h = neither_of (three_operands s.colour.op || three_operands s.alpha.op) _ e in
-    let n = neither_of (three_operands s.colour.op) (three_operands s.alpha.op) h.0 in
+    let h = or_parts (three_operands s.colour.op || three_operands s.alpha.op) _ e in
+    let n = or_parts (three_operands s.colour.op) (three_operands s.alpha.op) h.0 in
     rw (n.0, n.1, narrow_alike r h.1)
-  where
-    neither_of : (a b : Bool) → (a || b) ≡ false → (a ≡ false) × (b ≡ false)
-    neither_of true b e = absurd (true≢false e)
-    neither_of false b e = (refl, e)
 
 pub effective_alike : (k : Key) → k.wide ≡ false → any_of_three k.stages ≡ false → effective_stages k ≡ k.stages
 unfolding effective_stages

@@ -5,6 +5,8 @@ use mathlib.Core.Path.{◌≡◌, refl, sym}
 use native.Mathlib.Omega.{arith}
 use borrow.Author.Tests.{ne_eqb, lt-leb, ltb-true, leb-true, eqb-true, not-true}
 use lib.Dec.{eqb, leb, ltb}
+use Rattle.std.proofs.Math.Bool.{and-false, or-false}
+use Rattle.std.proofs.lemmas.Bool.{and_parts}
 use Rattle.combiners.specs.Codes.{selector, factor, constant, temp}
 use Rattle.combiners.specs.Warnings.{unknown_selector, unknown_modifier}
 use Rattle.cascade.specs.Keys.{selects, some, reads, reads_constant, blends_by_factor, names_factor}
@@ -14,17 +16,13 @@ use Rattle.cascade.specs.Walks.{warns}
 use Rattle.cascade.specs.Plain.{PlainArgument, PlainCombiner, PlainStage}
 use Rattle.values.specs.declared.Combiner.{Combiner}
 use Rattle.values.specs.declared.Stage.{Stage}
-use Rattle.cascade.proofs.Guards.{and-false, none_read, none_kept}
-
-pub both : (a b : Bool) → (a && b) ≡ true → (a ≡ true) × (b ≡ true)
-both true b e = (refl, e)
-both false b e = absurd (true≢false (sym e))
+use Rattle.cascade.proofs.Guards.{none_read, none_kept}
 
 -- an argument below 64 whose selector is at most 4 and not 3
 pub plain_argument : (a : ℕ) → (ltb a 64 && (leb (selector a) 4 && not (eqb (selector a) 3))) ≡ true → PlainArgument a
 plain_argument a h =
-    let small = both (ltb a 64) _ h in
-    let low = both (leb (selector a) 4) _ small.1 in
+    let small = and_parts (ltb a 64) _ h in
+    let low = and_parts (leb (selector a) 4) _ small.1 in
     let m : a < 64 = ltb-true a 64 small.0 in
     let s : selector a ≤ 4 = leb-true (selector a) 4 low.0 in
     record {
@@ -50,10 +48,6 @@ module _ (s : Stage) (p : PlainCombiner s.colour) (q : PlainCombiner s.alpha) wh
   names : names_factor s ≡ blends_by_factor s
   unfolding names_factor
   names = rw (none (selects factor) (λ a x. x.factor) s.colour p, none (selects factor) (λ a x. x.factor) s.alpha q, and-false, or-false)
-    where
-      or-false : (x : Bool) → (x || false) ≡ x
-      or-false true = refl
-      or-false false = refl
 
   warned : (f : ℕ → Bool) → ((a : ℕ) → PlainArgument a → f a ≡ false)
       → ((applies_colour s && some f s.colour) || (applies_alpha s && some f s.alpha)) ≡ false
@@ -69,11 +63,3 @@ module _ (s : Stage) (p : PlainCombiner s.colour) (q : PlainCombiner s.alpha) wh
         selector = warned unknown_selector (λ a x. x.selector);
         modifier = warned unknown_modifier (λ a x. x.modifier);
       }
-
--- the row count of the last constant, where this stage reads none
-pub kept_constant : (n m : ℕ) → n ≡ cond (eqb n 0) (cond false m 0) n
-kept_constant n m = go (eqb n 0) refl
-  where
-    go : (b : Bool) → eqb n 0 ≡ b → n ≡ cond b 0 n
-    go true e = eqb-true n 0 e
-    go false e = refl

@@ -14,21 +14,9 @@ use Rattle.cascade.specs.Warnings.{applies_colour, applies_alpha, combiner_repor
 use Rattle.cascade.specs.Walks.{gives, warns}
 use Rattle.values.specs.declared.Combiner.{Combiner}
 use Rattle.values.specs.declared.Stage.{Stage}
-use Rattle.cascade.proofs.Guards.{and-false}
+use Rattle.std.proofs.Math.Bool.{and-false, or-false, and-true, or_assoc, and_assoc}
 
 -- Tests in other words.
-
-or_assoc : (a b c : Bool) → ((a || b) || c) ≡ (a || (b || c))
-or_assoc true b c = refl
-or_assoc false b c = refl
-
-or-false : (a : Bool) → (a || false) ≡ a
-or-false true = refl
-or-false false = refl
-
-and-true : (a : Bool) → (a && true) ≡ a
-and-true true = refl
-and-true false = refl
 
 and_or : (a b e : Bool) → ((a && e) || (b && e)) ≡ ((a || b) && e)
 and_or true true true = refl
@@ -39,11 +27,7 @@ and_or false b e = refl
 in_some : (f : ℕ → Bool) (k : Combiner) (e : Bool)
     → ((f k.arg1 && e) || ((f k.arg2 && e) || (three_operands k.op && (f k.arg0 && e)))) ≡ (some f k && e)
 in_some f k e =
-    rw (and_assoc (three_operands k.op) (f k.arg0) e, and_or (f k.arg2) (third f k) e) (and_or (f k.arg1) (f k.arg2 || third f k) e)
-  where
-    and_assoc : (a b c : Bool) → (a && (b && c)) ≡ ((a && b) && c)
-    and_assoc true b c = refl
-    and_assoc false b c = refl
+    rw (← and_assoc (three_operands k.op) (f k.arg0) e, and_or (f k.arg2) (third f k) e) (and_or (f k.arg1) (f k.arg2 || third f k) e)
 
 alone : (same e : Bool) → ((same && e) || false) ≡ ((same && true) && e)
 alone true e = or-false e
