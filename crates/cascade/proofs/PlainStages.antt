@@ -1,9 +1,9 @@
 -- What plain arguments keep out of a stage.
 use Prim.Native.Nat.{ℕ, ◌<◌, ◌≤◌}
-use mathlib.Core.Bool.{Bool, true, false, not, ◌&&◌, ◌||◌, cond, true≢false}
-use mathlib.Core.Path.{◌≡◌, refl, sym}
+use mathlib.Core.Bool.{Bool, true, false, not, ◌&&◌, ◌||◌}
+use mathlib.Core.Path.{◌≡◌}
 use native.Mathlib.Omega.{arith}
-use borrow.Author.Tests.{ne_eqb, lt-leb, ltb-true, leb-true, eqb-true, not-true}
+use borrow.Author.Tests.{ne_eqb, lt-leb, ltb-true, leb-true, not-true}
 use lib.Dec.{eqb, leb, ltb}
 use Rattle.std.proofs.Math.Bool.{and-false, or-false}
 use Rattle.std.proofs.lemmas.Bool.{and_parts}

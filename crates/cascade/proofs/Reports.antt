@@ -14,20 +14,14 @@ use Rattle.cascade.specs.Warnings.{applies_colour, applies_alpha, combiner_repor
 use Rattle.cascade.specs.Walks.{gives, warns}
 use Rattle.values.specs.declared.Combiner.{Combiner}
 use Rattle.values.specs.declared.Stage.{Stage}
-use Rattle.std.proofs.Math.Bool.{and-false, or-false, and-true, or_assoc, and_assoc}
+use Rattle.std.proofs.Math.Bool.{and-false, or-false, and-true, or_assoc, and_assoc, and-or_distrib_right}
 
 -- Tests in other words.
-
-and_or : (a b e : Bool) → ((a && e) || (b && e)) ≡ ((a || b) && e)
-and_or true true true = refl
-and_or true true false = refl
-and_or true false e = or-false e
-and_or false b e = refl
 
 in_some : (f : ℕ → Bool) (k : Combiner) (e : Bool)
     → ((f k.arg1 && e) || ((f k.arg2 && e) || (three_operands k.op && (f k.arg0 && e)))) ≡ (some f k && e)
 in_some f k e =
-    rw (← and_assoc (three_operands k.op) (f k.arg0) e, and_or (f k.arg2) (third f k) e) (and_or (f k.arg1) (f k.arg2 || third f k) e)
+    rw (← and_assoc (three_operands k.op) (f k.arg0) e, ← and-or_distrib_right (f k.arg2) (third f k) e) (sym (and-or_distrib_right (f k.arg1) (f k.arg2 || third f k) e))
 
 alone : (same e : Bool) → ((same && e) || false) ≡ ((same && true) && e)
 alone true e = or-false e
@@ -73,7 +67,7 @@ of_stage c j i s =
       where_applied c j i s.colour (applies_colour s),
       where_applied c j i s.alpha (applies_alpha s),
     )
-    (and_or (applies_colour s && gives c s.colour) (applies_alpha s && gives c s.alpha) (eqb j i))
+    (sym (and-or_distrib_right (applies_colour s && gives c s.colour) (applies_alpha s && gives c s.alpha) (eqb j i)))
 
 -- The stages before number i report nothing in the reports from i on.
 earlier : (c : Cause) (j i : ℕ) (ss : List Stage) → j < i → reported c j (reports_from i ss) ≡ false
