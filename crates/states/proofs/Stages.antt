@@ -78,18 +78,7 @@ module _ (t v : ℕ) where
 -- a number that is no type leaves a stage, and sets no argument 0
 pub other_type : (t v : ℕ) (s : Stage) → is_type t ≡ false → (set_stage t v s ≡ s) × (sets_arg0 t ≡ false)
 unfolding set_stage
-other_type t v s e =
-    let a = neither (eqb t 1) _ e in
-    let b = neither (eqb t 2) _ a.1 in
-    let c = neither (eqb t 3) _ b.1 in
-    let d = neither (eqb t 4) _ c.1 in
-    let f = neither (eqb t 5) _ d.1 in
-    let g = neither (eqb t 6) _ f.1 in
-    let h = neither (eqb t 28) _ g.1 in
-    let i = neither (eqb t 0) _ h.1 in
-    let j = neither (eqb t 26) _ i.1 in
-    let k = neither (eqb t 27) _ j.1 in
-    rw (a.0, b.0, c.0, d.0, f.0, g.0, h.0, i.0, j.0, k.0) (refl, refl)
+other_type t v s e = grind (arith, neither)
 
 -- the number of a state is a type
 pub named_type : (n : ℕ) (s : StageState) → state_number s ≡ n → is_type n ≡ true

@@ -70,8 +70,8 @@ wide_after i t v k = go (sets_arg0 t) k.wide refl
         ∙ ap (set_stage t v) (sym (get_or-map seven_bytes k.stages i (default_stage 1 1))))
 
 -- a list that has, at each index, what f makes of the element there
-pub mapped : (f : Stage → Stage) (l m : List Stage) → length m ≡ length l → ((i : ℕ) → i < length l → get_or m i (default_stage 1 1) ≡ f (get_or l i (default_stage 1 1)))
-    → m ≡ map f l
+pub mapped : (f : Stage → Stage) (l m : List Stage) → length m ≡ length l
+    → ((i : ℕ) → i < length l → get_or m i (default_stage 1 1) ≡ f (get_or l i (default_stage 1 1))) → m ≡ map f l
 mapped f [] [] e h = refl
 mapped f [] (s ∷ m) e h = absurd (omega arith)
 mapped f (r ∷ l) [] e h = absurd (omega arith)

@@ -120,6 +120,7 @@ fn wide_stages(key: Key) -> [Stage; 8]
 }
 
 // What a key holds for a stage and a type.
+#[tactic(auto, unfolding(crate::specs::Writes::got_state))]
 pub fn get(key: Key, stage: u8, state: u8) -> Result<u8, Refusal>
     ensures { result ≡ got_state key stage state }
 {

@@ -11,4 +11,4 @@ returns-else-key c =
     rw c.if-key.false
     (mapped seven_bytes c.args.key.stages c.map.result (search rules)
     (λ (i : ℕ) (h : i < length c.args.key.stages).
-    let e = c.map.ensures.items.at i (default_stage 1 1) (default_stage 1 1) (omega arith) in let f = e.2 in search rules))
+    let made = (c.map.ensures.items.at i (default_stage 1 1) (default_stage 1 1) (omega arith)).2 in search rules))
