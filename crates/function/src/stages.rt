@@ -20,7 +20,7 @@ use cascade::reading::{is_lined, is_luminance};
 use cascade::{Expressions, Survey};
 use expressions::line::put_line;
 use shader::Before;
-use values::{Key, Stage, Variant};
+use values::{Key, Stage, StageIndex, Variant};
 use variants::bits::{LOD_BIAS, bit, flag};
 use variants::kinds::lookup_of;
 
@@ -79,7 +79,7 @@ fn put_stage_line(out: &mut [u8], at: usize, alive: bool, s: Stage, e: Expressio
     ensures { Wrote out.old at out.new result (stage_line alive i s (Some e)) }
 {
     if is_lined(alive, s) {
-        return put_line(out, at, e, i, textured(s), to_temp(s));
+        return put_line(out, at, e, StageIndex::new(i), textured(s), to_temp(s));
     }
     at
 }

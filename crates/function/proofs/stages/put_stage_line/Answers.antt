@@ -7,7 +7,7 @@ use Rattle.function.proofs.stages.put_stage_line.Goals as goal
 pub returns-then-is_lined : goal.returns-then-is_lined
 unfolding stage_line
 returns-then-is_lined c =
-    pick_true (sym c.is_lined.ensures ∙ c.if-is_lined.true) (rw (← c.textured.ensures, ← c.to_temp.ensures) c.put_line.ensures)
+    pick_true (sym c.is_lined.ensures ∙ c.if-is_lined.true) (rw (← c.new.ensures, ← c.textured.ensures, ← c.to_temp.ensures) c.put_line.ensures)
 
 pub returns : goal.returns
 unfolding stage_line
