@@ -41,7 +41,7 @@ pub record Taken (b : List ℕ) (r : Record) : Type 0 where
   pub bytes : Bytes b → record_bytes r ≡ take (record_length (kind_of r)) b
 
 -- a byte that names a kind, and one that names none
-kind_cases : (P : Result Kind Refusal → Type 0) (x : ℕ) → ((k : Kind) → x ≡ kind_byte k → P (Ok k)) → P (Err UnknownKind) → P (kind_from x)
+pub kind_cases : (P : Result Kind Refusal → Type 0) (x : ℕ) → ((k : Kind) → x ≡ kind_byte k → P (Ok k)) → P (Err UnknownKind) → P (kind_from x)
 kind_cases P x p q =
     test 1 kind.Key _ (p kind.Key) (test 2 kind.Variant _ (p kind.Variant) (test 3 kind.Entry _ (p kind.Entry)
     (test 4 kind.Emit _ (p kind.Emit) (test 5 kind.State _ (p kind.State) (test 6 kind.WideKey _ (p kind.WideKey) q)))))
