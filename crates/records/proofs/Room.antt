@@ -7,68 +7,66 @@ use native.Mathlib.Omega.{arith}
 use borrow.Author.Tests.{ne_eqb}
 use lib.Dec.{eqb, ltb}
 use lib.ListN.{length, get_or}
+use Rattle.std.specs.Prelude.{Option, Some, None, IfSome, Result}
+use Rattle.std.proofs.lemmas.Bool.{cond_both}
 use Rattle.values.specs.Flags.{stage_flags_bad, variant_flags_bad}
 use Rattle.values.specs.Entries.{entry_good}
 use Rattle.values.specs.Words.{entry_reserved}
+use Rattle.values.specs.Refusals.{number_in}
+use Rattle.values.specs.declared.Key.{Key}
+use Rattle.values.specs.declared.Variant.{Variant}
+use Rattle.values.specs.declared.Entry.{Entry}
+use Rattle.values.specs.declared.Refusal.{Refusal}
 use Rattle.values.specs.declared.StateWrite.{StateWrite}
 use Rattle.states.specs.Types.{is_type, takes}
-use Rattle.states.specs.States.{defaults}
 use Rattle.states.specs.Writes.{state_write_number}
 use Rattle.states.proofs.Keys.{defaults_eight, kept}
 use Rattle.lengths.proofs.Room.{never_eight}
 use Rattle.wire.specs.Bodies.{body_length, specular_byte, key_from_body, variant_from_body, entry_from_body, state_from_body}
-use Rattle.wire.specs.Values.{blank_key}
-use Rattle.wire.specs.Reading.{key_number, body_number, record_number, read_record}
+use Rattle.wire.specs.Reading.{number_by, key_number, body_number, record_number}
 use Rattle.wire.specs.declared.Kind.{Kind}
 use Rattle.wire.specs.declared.Kind.TheVariants as kind
 use Rattle.wire.specs.declared.Record.{Record}
-use Rattle.wire.proofs.Found.{read_shaped}
-use Rattle.records.specs.Applying.{nothing_held, holds_all, key_or_defaults, holding, held_after, apply_answer, applied}
-use Rattle.records.specs.Applying.{apply_number, emit_number, applied_number}
+use Rattle.wire.specs.declared.Record.TheVariants as rec
+use Rattle.wire.specs.declared.Reading.{Reading}
+use Rattle.wire.proofs.Bodies.{Shaped}
+use Rattle.wire.proofs.Found.{kind_cases, read_either}
+use Rattle.records.specs.Applying.{nothing_held, all_of, or_defaults, key_or_defaults, holding, held_with, held_after, apply_answer}
+use Rattle.records.specs.Applying.{values_number, emit_number, applied_number}
 use Rattle.records.specs.declared.Held.{Held}
-use Rattle.records.specs.declared.ApplyAnswer.{ApplyAnswer}
-use Rattle.records.specs.declared.ApplyAnswer.TheVariants.{Replaced, Text, Refused}
 use Rattle.records.proofs.Answers.{applied_number_lem}
 
 abbrev pub EightStages : Held → Type 0
-EightStages h = length h.key.stages ≡ 8
+EightStages h = IfSome h.key (λ k. length k.stages ≡ 8)
 
 pub nothing_held_eight : EightStages nothing_held
-unfolding blank_key
-nothing_held_eight = refl
+nothing_held_eight = tt
 
 -- a write alters one stage of eight
 pub start_eight : (h : Held) → EightStages h → length (key_or_defaults h).stages ≡ 8
-start_eight h t = go h.has_key
+start_eight h = go h.key
   where
-    go : (b : Bool) → length (cond b h.key defaults).stages ≡ 8
-    go true = t
-    go false = defaults_eight
+    go : (k : Option Key) → IfSome k (λ k. length k.stages ≡ 8) → length (or_defaults k).stages ≡ 8
+    go None t = defaults_eight
+    go (Some k) t = t
 
-holding_eight : (k : Kind) (r : Record) (h : Held) → length r.key.stages ≡ 8 → EightStages h → EightStages (holding k r h)
-unfolding holding
-holding_eight kind.Key r h s t = s
-holding_eight kind.Variant r h s t = t
-holding_eight kind.Entry r h s t = t
-holding_eight kind.Emit r h s t = t
-holding_eight kind.State r h s t = let e = start_eight h t in (kept r.write (key_or_defaults h) e).stages ∙ e
-holding_eight kind.WideKey r h s t = s
+holding_eight : (r : Record) (h : Held) → Shaped r → EightStages h → EightStages (holding r h)
+holding_eight (rec.Key k) h s t = s
+holding_eight (rec.Variant v) h s t = t
+holding_eight (rec.Entry e) h s t = t
+holding_eight rec.Emit h s t = t
+holding_eight (rec.State w) h s t = let e = start_eight h t in (kept w (key_or_defaults h) e).stages ∙ e
+holding_eight (rec.WideKey k) h s t = s
 
-after_eight : (a : ApplyAnswer) (r : Record) (h : Held) → length r.key.stages ≡ 8 → EightStages h → EightStages (held_after a r h)
-after_eight (Replaced n) r h s t = holding_eight r.kind r h s t
-after_eight (Text n e) r h s t = t
-after_eight (Refused c) r h s t = t
-
-pub applied_eight : (h : Held) (b : List ℕ) (room : ℕ) → EightStages h → EightStages (applied h b room).held
-applied_eight h b room t = after_eight (apply_answer h b room) (read_record b).found h (read_shaped b).stages t
+pub applied_eight : (h : Held) (b : List ℕ) → EightStages h → EightStages (held_after h b)
+applied_eight h b t = read_either (λ (x : Result Reading Refusal). EightStages (held_with x h)) b (λ c n. t) (λ r s. holding_eight r h s.shaped t)
 
 -- Which numbers are not 8: of a choice both, of the reader all, of an emit record those that leave room.
 abbrev NotEight : ℕ → Type 0
 NotEight n = eqb n 8 ≡ false
 
 neither : (t : Bool) (x y : ℕ) → NotEight x → NotEight y → NotEight (cond t x y)
-neither true x y p q = p
-neither false x y p q = q
+neither t x y p q = cond_both t x y NotEight (λ _. p) (λ _. q)
 
 write_number_lem : (w : StateWrite) → NotEight (state_write_number w)
 unfolding state_write_number
@@ -91,26 +89,28 @@ body_number_lem kind.WideKey b = key_number_lem true b
 record_number_lem : (b : List ℕ) → NotEight (record_number b)
 unfolding record_number
 record_number_lem [] = refl
-record_number_lem (x ∷ b) =
-    neither (eqb x 1) _ _ (whole kind.Key)
-    (neither (eqb x 2) _ _ (whole kind.Variant) (neither (eqb x 3) _ _ (whole kind.Entry)
-    (neither (eqb x 4) _ _ (whole kind.Emit)
-    (neither (eqb x 5) _ _ (whole kind.State) (neither (eqb x 6) _ 2 (whole kind.WideKey) refl)))))
+record_number_lem (x ∷ b) = kind_cases (λ (a : Result Kind Refusal). NotEight (number_by a whole_number)) x (λ k _. whole k) refl
   where
-    whole : (k : Kind) → NotEight (cond (ltb (length b) (body_length k)) 1 (body_number k b))
+    whole_number : Kind → ℕ
+    whole_number k = cond (ltb (length b) (body_length k)) 1 (body_number k b)
+
+    whole : (k : Kind) → NotEight (whole_number k)
     whole k = neither (ltb (length b) (body_length k)) 1 _ refl (body_number_lem k b)
 
 module _ (h : Held) (stages : EightStages h) (room : ℕ) (enough : 16384 ≤ room) where
   emit_number_lem : NotEight (emit_number h room)
-  unfolding emit_number
-  emit_number_lem =
-      neither (holds_all h) _ 7 (ne_eqb _ _ (never_eight h.key h.variant h.entry room (omega (arith, stages)) enough)) refl
+  emit_number_lem = go h.key h.variant h.entry stages
+    where
+      go : (k : Option Key) (v : Option Variant) (e : Option Entry) → IfSome k (λ k. length k.stages ≡ 8) → NotEight (values_number (all_of k v e) room)
+      go None v e s = refl
+      go (Some k) None e s = refl
+      go (Some k) (Some v) None s = refl
+      go (Some k) (Some v) (Some e) s = ne_eqb _ _ (never_eight k v e room (omega (arith, s)) enough)
 
   number : (b : List ℕ) → NotEight (applied_number h b room)
-  unfolding applied_number
   number b = neither (eqb (record_number b) 0) _ _ (neither (eqb (get_or b 0 0) 4) _ 0 emit_number_lem refl) (record_number_lem b)
 
-  pub applied_never_eight : (b : List ℕ) → apply_number (apply_answer h b room) ≡ 8 → ⊥
+  pub applied_never_eight : (b : List ℕ) → number_in (apply_answer h b room) ≡ 8 → ⊥
   applied_never_eight b e =
-      let n : applied_number h b room ≡ 8 = sym (applied_number_lem {a = applied h b room} h b room refl) ∙ e in
+      let n : applied_number h b room ≡ 8 = sym (applied_number_lem h b room refl) ∙ e in
       true≢false (rw n at (number b))

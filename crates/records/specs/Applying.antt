@@ -1,6 +1,6 @@
 -- The held key, variant and entry, and the record at the front of some bytes applied to them.
 -- 01: "7, and 8 for a text, come from the call above it that reads a record and applies it."
-use Rattle.std.specs.Prelude.{ℕ, cond, List, eqb, get_or, take, Option, Some, None, Result, Ok, Err, ⊥}
+use Rattle.std.specs.Prelude.{ℕ, cond, List, eqb, get_or, take, Option, Some, None, Result, Ok, Err}
 use Rattle.values.specs.declared.Key.{Key}
 use Rattle.values.specs.declared.Variant.{Variant}
 use Rattle.values.specs.declared.Entry.{Entry}
@@ -55,7 +55,7 @@ abbrev pub holding_key : Key → Held → Held
 holding_key k h = record { key = Some k; variant = h.variant; entry = h.entry }
 
 -- what is held once a record's value is, or once its write is done. 02, One: "The first write counts as a key for number 7"
-unfoldable pub holding : Record → Held → Held
+abbrev pub holding : Record → Held → Held
 holding (rec.Key k) h = holding_key k h
 holding (rec.Variant v) h = record { key = h.key; variant = Some v; entry = h.entry }
 holding (rec.Entry e) h = record { key = h.key; variant = h.variant; entry = Some e }
@@ -77,7 +77,7 @@ text_answer n (Ok e) = Ok (Text n e)
 text_answer n (Err c) = Err c
 
 -- to a record that took n bytes
-unfoldable pub apply_as : Record → ℕ → Held → ℕ → Result Applied Refusal
+abbrev pub apply_as : Record → ℕ → Held → ℕ → Result Applied Refusal
 apply_as (rec.Key k) n h room = Ok (Replaced n)
 apply_as (rec.Variant v) n h room = Ok (Replaced n)
 apply_as (rec.Entry e) n h room = Ok (Replaced n)
@@ -129,10 +129,10 @@ abbrev pub values_number : Option Values → ℕ → ℕ
 values_number None room = 7
 values_number (Some x) room = emission_number x.key x.variant x.entry room
 
-unfoldable pub emit_number : Held → ℕ → ℕ
+abbrev pub emit_number : Held → ℕ → ℕ
 emit_number h room = values_number (all_held h) room
 
 -- of some bytes: the reader's 2, 1, and those of a body, and behind them those of an emit record; 0 where none of them holds
-unfoldable pub applied_number : Held → List ℕ → ℕ → ℕ
+abbrev pub applied_number : Held → List ℕ → ℕ → ℕ
 applied_number h b room =
     cond (eqb (record_number b) 0) (cond (eqb (get_or b 0 0) (kind_byte kind.Emit)) (emit_number h room) 0) (record_number b)

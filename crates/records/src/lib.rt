@@ -53,7 +53,7 @@ impl Held {
 
     // Holds the record's value, or does its write to the held key.
     fn hold(&mut self, record: Record)
-        ensures { self.new ≡ holding record self.old }
+        ensures { self.new ≡ holding «record» self.old }
     {
         match record {
             Record::Key(key) | Record::WideKey(key) => self.key = Some(key),
@@ -78,6 +78,7 @@ impl Held {
     }
 
     // Reads the record at the front of the bytes and applies it to what is held. A refusal leaves what is held and text as they were.
+    #[tactic(auto, using(crate::proofs::Answers::applied_number_lem, crate::proofs::Answers::replaced, crate::proofs::Answers::replaced_number))]
     pub fn apply(&mut self, bytes: &[u8], text: &mut [u8]) -> Result<Applied, Refusal>
         ensures answer { result ≡ apply_answer self.old bytes.now (length text.old) }
         ensures held { self.new ≡ held_after self.old bytes.now }
