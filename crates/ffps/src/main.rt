@@ -1,31 +1,27 @@
 //! The program: records from standard input, and the texts that they ask for.
 #![tactic(auto)]
 
-ghost use Rattle.std.specs.Prelude.{◌≤◌, length};
 ghost use Rattle.std.specs.Io.{ReadsAtMost};
 
-use emission::front;
 use printout::lines::{LINE_LENGTH, put_refused_line};
 use printout::{INPUT_LENGTH, TEXT_LENGTH, begin, step};
 use std::io;
 use std::io::{ErrorKind, Read, Write};
 use values::Refusal;
 
+// Why an input cannot be taken.
 #[derive(Clone, Copy)]
-enum End {
-    // The input ended.
-    Whole,
-    // There is more input than the buffer takes.
+enum Untaken {
+    // There is more of it than the buffer takes.
     TooLong,
     // A read failed.
     Failed,
 }
 
-// How reading ended, and how many bytes came.
-#[derive(Clone, Copy)]
-struct Input {
-    end: End,
-    length: usize,
+impl From<io::Error> for Untaken {
+    fn from(_e: io::Error) -> Untaken {
+        Untaken::Failed
+    }
 }
 
 // How often an interrupted read is tried again. Nothing guarantees that interrupts stop, and a proved loop has to end.
@@ -37,134 +33,63 @@ fn read_some<R: Read>(from: &mut R, buf: &mut [u8]) -> io::Result<usize>
 {
     for _ in 0..MOST_TRIES {
         match from.read(buf) {
-            Ok(n) => return Ok(n),
-            Err(e) => {
-                if e.kind() != ErrorKind::Interrupted {
-                    return Err(e);
-                }
-            }
+            Err(e) if e.kind() == ErrorKind::Interrupted => {}
+            answer => return answer,
         }
     }
     Err(io::Error::from(ErrorKind::Interrupted))
 }
 
-// Whether the input ends here.
-fn end_here<R: Read>(from: &mut R) -> End {
-    let mut one = [0u8; 1];
-    match read_some(from, &mut one) {
-        Ok(0) => End::Whole,
-        Ok(_) => End::TooLong,
-        Err(_) => End::Failed,
-    }
-}
-
-// The input to its end, or until the buffer is full. One read may bring fewer bytes than there are.
-fn read_input<R: Read>(from: &mut R, input: &mut [u8]) -> Input
-    ensures { result.length ≤ length input.new }
-{
+// The input to its end. One read may bring fewer bytes than there are, and only a read behind a full buffer tells whether the input ends there.
+fn read_input<'a, R: Read>(from: &mut R, buffer: &'a mut [u8]) -> Result<&'a [u8], Untaken> {
     let mut n = 0;
-    while n < input.len() {
-        match read_some(from, &mut input[n..]) {
-            Ok(0) => {
-                return Input {
-                    end: End::Whole,
-                    length: n,
-                };
-            }
-            Ok(more) => n += more,
-            Err(_) => {
-                return Input {
-                    end: End::Failed,
-                    length: n,
-                };
-            }
+    while n < buffer.len() {
+        let more = read_some(from, &mut buffer[n..])?;
+        if more == 0 {
+            return Ok(&buffer[..n]);
         }
+        n += more;
     }
-    let end = end_here(from);
-    Input {
-        end: end,
-        length: n,
-    }
-}
-
-// Whether the front of a buffer was written, all of it.
-fn write_front<W: Write>(to: &mut W, buf: &mut [u8], len: usize) -> bool {
-    let written = front(buf, len);
-    to.write_all(&written[..]).is_ok()
-}
-
-// Whether a line, and then the text behind it, could be written.
-fn write_printed<W: Write>(
-    to: &mut W,
-    line: &mut [u8],
-    n: usize,
-    text: &mut [u8],
-    m: usize,
-) -> bool {
-    if !write_front(to, line, n) {
-        return false;
-    }
-    write_front(to, text, m)
-}
-
-// Whether what is printed for the input could be written. The first write that fails is the last.
-fn print_output<W: Write>(
-    to: &mut W,
-    input: &[u8],
-    line: &mut [u8; LINE_LENGTH],
-    text: &mut [u8; TEXT_LENGTH],
-) -> bool {
-    let mut session = begin();
-    loop {
-        let printed = step(session, input, line, text);
-        if !write_printed(to, line, printed.line, text, printed.text) {
-            return false;
-        }
-        if !printed.more {
-            return true;
-        }
-        let next = printed.next;
-        session = next;
+    if read_some(from, &mut [0u8; 1])? == 0 {
+        Ok(buffer)
+    } else {
+        Err(Untaken::TooLong)
     }
 }
 
-fn print_too_long<W: Write>(to: &mut W, line: &mut [u8; LINE_LENGTH]) -> bool {
-    let len = put_refused_line(line, Refusal::InputTooLong, INPUT_LENGTH);
-    write_front(to, line, len)
-}
-
-fn tell<W: Write>(to: &mut W, message: &[u8]) {
-    let _ = to.write_all(message);
-}
-
-fn tell_unless<W: Write>(to: &mut W, written: bool) {
-    if !written {
-        tell(to, b"standard output cannot be written\n");
+// What is printed for the input. The first write that fails is the last.
+#[tactic(auto, using(printout::proofs::Loops::turn))]
+fn print_output<W: Write>(to: &mut W, input: &[u8]) -> io::Result<()> {
+    let mut line = [0u8; LINE_LENGTH];
+    let mut text = [0u8; TEXT_LENGTH];
+    let mut next = Some(begin());
+    while let Some(session) = next {
+        let printed = step(session, input, &mut line, &mut text);
+        to.write_all(&line[..printed.line])?;
+        to.write_all(&text[..printed.text])?;
+        next = printed.more.then_some(printed.next);
     }
+    Ok(())
 }
 
-// Standard input into the first buffer, and what is printed for it.
-fn run(
-    rt: &HostRuntime,
-    input: &mut [u8],
-    line: &mut [u8; LINE_LENGTH],
-    text: &mut [u8; TEXT_LENGTH],
-) {
-    let mut from = rt.stdin();
-    let mut to = rt.stdout();
-    let mut errors = rt.stderr();
-    let got = read_input(&mut from, input);
-    let n = got.length;
-    match got.end {
-        End::Whole => tell_unless(&mut errors, print_output(&mut to, &input[..n], line, text)),
-        End::TooLong => tell_unless(&mut errors, print_too_long(&mut to, line)),
-        End::Failed => tell(&mut errors, b"standard input cannot be read\n"),
-    }
+fn print_too_long<W: Write>(to: &mut W) -> io::Result<()> {
+    let mut line = [0u8; LINE_LENGTH];
+    let n = put_refused_line(&mut line, Refusal::InputTooLong, INPUT_LENGTH);
+    to.write_all(&line[..n])
 }
 
 fn main(rt: HostRuntime) {
-    let mut input = [0u8; INPUT_LENGTH];
-    let mut text = [0u8; TEXT_LENGTH];
-    let mut line = [0u8; LINE_LENGTH];
-    run(&rt, &mut input, &mut line, &mut text);
+    let mut buffer = [0u8; INPUT_LENGTH];
+    let mut to = rt.stdout();
+    let written = match read_input(&mut rt.stdin(), &mut buffer) {
+        Ok(input) => print_output(&mut to, input),
+        Err(Untaken::TooLong) => print_too_long(&mut to),
+        Err(Untaken::Failed) => {
+            let _ = eprintln!(rt; "standard input cannot be read");
+            return;
+        }
+    };
+    if written.is_err() {
+        let _ = eprintln!(rt; "standard output cannot be written");
+    }
 }

@@ -4,3 +4,4 @@ pub mod Steps
 pub mod Printed
 pub mod NeverEight
 pub mod Examples
+pub mod Loops

@@ -1,6 +1,6 @@
 -- The loop ends, since each record takes a byte at least.
-use Rattle.std.proofs.Common.{length, ◌-◌}
+use Rattle.printout.proofs.Loops.{still_left}
 use Rattle.replay.proofs.same_output.Given as goal
 
-abbrev pub decreases-loop-printed : goal.decreases-loop-printed
-decreases-loop-printed l = length l.input - l.session.at
+abbrev pub decreases-loop-next : goal.decreases-loop-next
+decreases-loop-next l = still_left l.next l.input
