@@ -67,7 +67,7 @@ fn print_output<W: Write>(to: &mut W, input: &[u8]) -> io::Result<()> {
         let printed = step(session, input, &mut line, &mut text);
         to.write_all(&line[..printed.line])?;
         to.write_all(&text[..printed.text])?;
-        next = printed.more.then_some(printed.next);
+        next = printed.next;
     }
     Ok(())
 }

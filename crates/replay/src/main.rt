@@ -30,7 +30,7 @@ fn same_output(input: &[u8], expected: &[u8]) -> bool {
             return false;
         };
         rest = left;
-        next = printed.more.then_some(printed.next);
+        next = printed.next;
     }
     rest.is_empty()
 }
