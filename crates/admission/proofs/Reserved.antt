@@ -1,6 +1,6 @@
 -- The patterns that the code tests, by length, are the reserved words (`by_length`).
-use Rattle.std.proofs.Common.{◌≡◌, ℕ, zero, suc, ◌+◌, ◌-◌, ◌*◌, ◌<◌, ◌≤◌, Bool, true, false, cond, ◌&&◌, ◌||◌, eqb, ltb, leb, List, [], ◌∷◌, ◌++◌}
-use Rattle.std.proofs.Common.{length, drop, sym, refl, ap, ◌∙◌, arith, drop_of_length-le, drop_at, ltb-true, ne_eqb, eqb-true}
+use Rattle.std.proofs.Common.{◌≡◌, ℕ, suc, ◌+◌, ◌-◌, ◌*◌, Bool, true, false, cond, ◌&&◌, ◌||◌, eqb, ltb, leb, List, [], ◌∷◌, ◌++◌}
+use Rattle.std.proofs.Common.{length, sym, refl, ap, ◌∙◌, arith, ltb-true, ne_eqb, eqb-true}
 use Prim.Native.Char.{code}
 use Prim.Native.String.{String}
 use mathlib.Core.Option.{Option, none, some}

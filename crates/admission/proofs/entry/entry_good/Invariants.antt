@@ -1,5 +1,5 @@
 -- No byte so far was wrong and those to come are right, from where the state stands, exactly where the entry is good.
-use Rattle.std.proofs.Common.{◌≡◌, ◌+◌, ◌≤◌, Bool, ◌&&◌, ℕ, List, length, drop}
+use Rattle.std.proofs.Common.{◌≡◌, ◌+◌, Bool, ◌&&◌, ℕ, List, length, drop}
 use Rattle.values.specs.Entries.{entry_good}
 use Rattle.admission.specs.declared.entry.Pass.{Pass}
 use Rattle.admission.proofs.Passes.{right_from}
