@@ -1,6 +1,6 @@
 -- The state of a pass over an entry's body as three numbers that the caller keeps.
 use Rattle.std.specs.Prelude.{ℕ, ◌%◌, List, [], ◌∷◌, get_or}
-use Rattle.admission.specs.declared.Pass.{Pass}
+use Rattle.admission.specs.declared.entry.Pass.{Pass}
 
 -- how many bytes were taken, the length byte, and 1 once a byte was wrong
 abbrev pub state_of : Pass → List ℕ

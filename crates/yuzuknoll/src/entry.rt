@@ -4,7 +4,6 @@ ghost use Rattle.admission.specs.Pass.{possible_in, started, pass_stepped};
 ghost use Rattle.yuzuknoll.specs.Entries.{pass_of, state_of};
 
 use admission::Pass;
-use admission::entry::{possible, start, step};
 
 // The state that three numbers stand for, each modulo 256, so that no number is out of range.
 fn pass_of(state: &[u64; 3]) -> Pass
@@ -28,7 +27,7 @@ fn report(pass: Pass, state: &mut [u64; 3])
 pub extern "C" fn yuzuknoll_entry_start(state: &mut [u64; 3])
     ensures { state.new ≡ state_of started }
 {
-    report(start(), state);
+    report(Pass::new(), state);
 }
 
 // The state behind one byte more.
@@ -37,7 +36,7 @@ pub extern "C" fn yuzuknoll_entry_step(state: &mut [u64; 3], byte: u8)
     ensures { state.new ≡ state_of (pass_stepped (pass_of state.old) byte) }
 {
     let pass = pass_of(state);
-    report(step(pass, byte), state);
+    report(pass.step(byte), state);
 }
 
 // 1 where some entry's body begins with the bytes taken, else 0.
@@ -46,7 +45,7 @@ pub extern "C" fn yuzuknoll_entry_possible(state: &[u64; 3]) -> u64
     ensures { result ≡ cond (possible_in (pass_of state.now)) 1 0 }
 {
     let pass = pass_of(state);
-    if possible(pass) {
+    if pass.is_possible() {
         return 1;
     }
     0
