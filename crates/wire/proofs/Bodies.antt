@@ -24,6 +24,7 @@ use Rattle.wire.specs.Bodies.{kind_of, body_length, key_kind, record_length, sta
 use Rattle.wire.specs.Bodies.{stage_bytes, stages_bytes, key_bytes, variant_bytes, entry_bytes, state_bytes}
 use Rattle.wire.specs.Bodies.{specular_at, specular_byte, stage_from_bytes, stages_from_bytes, key_from_body, variant_from_body, entry_from_body}
 use Rattle.wire.specs.Bodies.{state_from_body}
+use Rattle.wire.specs.Reading.{specular_in}
 use Rattle.wire.specs.Values.{key_as, key_record, own}
 use Rattle.wire.specs.declared.Kind.{Kind}
 use Rattle.wire.specs.declared.Kind.TheVariants as kind
@@ -54,34 +55,25 @@ Free (rec.State w) = accepted w ≡ true
 Free (rec.WideKey k) = stage_flags_bad k.stages ≡ false
 
 -- a key's record, of either kind
-module _ (P : Record → Type 0) (k : Key) where
-  pub of_either : P (rec.Key k) → P (rec.WideKey k) → P (key_record k)
-  of_either p q = go k.wide
-    where
-      go : (wide : Bool) → P (cond wide (rec.WideKey k) (rec.Key k))
-      go true = q
-      go false = p
+pub of_either : (P : Bool → Record → Type 0) (k : Key) → P false (rec.Key k) → P true (rec.WideKey k) → P k.wide (key_record k)
+of_either P k p q = go k.wide
+  where
+    go : (wide : Bool) → P wide (cond wide (rec.WideKey k) (rec.Key k))
+    go true = q
+    go false = p
 
 pub key_free : (k : Key) → stage_flags_bad k.stages ≡ false → Free (key_record k)
-key_free k f = of_either Free k f f
+key_free k f = of_either (λ _. Free) k f f
 
 pub key_shaped : (k : Key) → length k.stages ≡ 8 → Shaped (key_record k)
-key_shaped k h = of_either Shaped k h h
+key_shaped k h = of_either (λ _. Shaped) k h h
 
 pub key_kind_of : (k : Key) → kind_of (key_record k) ≡ key_kind k.wide
-key_kind_of k = go k.wide
-  where
-    go : (wide : Bool) → kind_of (cond wide (rec.WideKey k) (rec.Key k)) ≡ key_kind wide
-    go true = refl
-    go false = refl
+key_kind_of k = of_either (λ (wide : Bool) (r : Record). kind_of r ≡ key_kind wide) k refl refl
 
 pub key_body : (k : Key) → body_bytes (key_record k) ≡ key_bytes k.wide k
 unfolding body_bytes
-key_body k = go k.wide
-  where
-    go : (wide : Bool) → body_bytes (cond wide (rec.WideKey k) (rec.Key k)) ≡ key_bytes wide k
-    go true = refl
-    go false = refl
+key_body k = of_either (λ (wide : Bool) (r : Record). body_bytes r ≡ key_bytes wide k) k refl refl
 
 -- Lengths.
 
@@ -297,7 +289,7 @@ kind_again kind.WideKey b = refl
 
 pub own_again : (k : Kind) (b : List ℕ) → own (record_from_body k b) ≡ record_from_body k b
 unfolding key_from_body
-own_again kind.Key b = ap (λ (l : List Stage). rec.Key (record { stages = l; specular_add = (key_from_body false b).specular_add; projected = (key_from_body false b).projected; wide = false })) (stages_seven 8 b)
+own_again kind.Key b = rw stages_seven
 own_again kind.Variant b = refl
 own_again kind.Entry b = refl
 own_again kind.Emit b = refl
@@ -313,16 +305,8 @@ shaped_again kind.Emit b h = tt
 shaped_again kind.State b h = tt
 shaped_again kind.WideKey b h = stages_count true 8 b
 
--- of a body of a key, specular add is a yes or no
-abbrev pub Small : Kind → List ℕ → Type 0
-Small kind.Key b = specular_byte false b ≤ 1
-Small kind.Variant b = Unit {0}
-Small kind.Entry b = Unit {0}
-Small kind.Emit b = Unit {0}
-Small kind.State b = Unit {0}
-Small kind.WideKey b = specular_byte true b ≤ 1
-
-pub bytes_again : (k : Kind) (b : List ℕ) → Bytes b → body_length k ≤ length b → Small k b → body_bytes (record_from_body k b) ≡ take (body_length k) b
+pub bytes_again : (k : Kind) (b : List ℕ) → Bytes b → body_length k ≤ length b → specular_in k b ≤ 1 →
+    body_bytes (record_from_body k b) ≡ take (body_length k) b
 unfolding body_bytes
 bytes_again kind.Key b w h s = key_again false b h s
 bytes_again kind.Variant b w h s = variant_again b w h

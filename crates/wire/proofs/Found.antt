@@ -18,16 +18,16 @@ use Rattle.values.specs.declared.StateWrite.{StateWrite}
 use Rattle.states.specs.States.{wide_stages}
 use Rattle.states.proofs.Accepted.{check_cases}
 use Rattle.wire.specs.Steps.{◌>>=◌}
-use Rattle.wire.specs.Bodies.{kind_byte, kind_of, body_length, record_length, specular_byte, record_bytes, record_from_body, state_from_body}
+use Rattle.wire.specs.Bodies.{kind_byte, kind_of, body_length, record_length, record_bytes, record_from_body, state_from_body}
 use Rattle.wire.specs.Values.{key_as, key_record, own}
-use Rattle.wire.specs.Reading.{kind_from, number_by, took, checked_specular, read_body, read_as, read_record, body_number, record_number}
+use Rattle.wire.specs.Reading.{kind_from, number_by, took, specular_in, read_body, read_as, read_record, body_number, record_number}
 use Rattle.wire.specs.Writing.{value_number}
 use Rattle.wire.specs.declared.Kind.{Kind}
 use Rattle.wire.specs.declared.Kind.TheVariants as kind
 use Rattle.wire.specs.declared.Record.{Record}
 use Rattle.wire.specs.declared.Record.TheVariants as rec
 use Rattle.wire.specs.declared.Reading.{Reading}
-use Rattle.wire.proofs.Bodies.{Shaped, Bytes, Free, Small, kind_again, own_again, shaped_again, bytes_again}
+use Rattle.wire.proofs.Bodies.{Shaped, Bytes, Free, kind_again, own_again, shaped_again, bytes_again}
 use Rattle.wire.proofs.Causes.{either, value_cases}
 
 -- what is known of the record that was taken from the front of b
@@ -53,32 +53,15 @@ kind_cases P x p q =
         go true e = p (e refl)
         go false e = q
 
--- 4, of the bytes of a key
-abbrev specular_number : Kind → List ℕ → ℕ
-specular_number kind.Key b = cond (ltb 1 (specular_byte false b)) 4 0
-specular_number kind.Variant b = 0
-specular_number kind.Entry b = 0
-specular_number kind.Emit b = 0
-specular_number kind.State b = 0
-specular_number kind.WideKey b = cond (ltb 1 (specular_byte true b)) 4 0
-
-specular_cases : (Q : ℕ → Result (Unit {0}) Refusal → Type 0) (k : Kind) (b : List ℕ) → ((c : Refusal) → Q (number_of c) (Err c)) →
-    (Small k b → Q 0 (Ok tt)) → Q (specular_number k b) (checked_specular k b)
-specular_cases Q kind.Key b p q = either Q (ltb 1 (specular_byte false b)) _ _ _ _ (λ _. p SpecularAdd) (λ e. q (ltb-false _ _ e))
-specular_cases Q kind.Variant b p q = q tt
-specular_cases Q kind.Entry b p q = q tt
-specular_cases Q kind.Emit b p q = q tt
-specular_cases Q kind.State b p q = q tt
-specular_cases Q kind.WideKey b p q = either Q (ltb 1 (specular_byte true b)) _ _ _ _ (λ _. p SpecularAdd) (λ e. q (ltb-false _ _ e))
-
 -- the number of a body is that of its value, and behind it 4
-body_split : (k : Kind) (b : List ℕ) → value_number (record_from_body k b) (specular_number k b) ≡ body_number k b
+body_split : (k : Kind) (b : List ℕ) → value_number (record_from_body k b) (cond (ltb 1 (specular_in k b)) 4 0) ≡ body_number k b
 unfolding value_number body_number
 body_split kind.Key b = refl
 body_split kind.Variant b = refl
 body_split kind.Entry b = refl
 body_split kind.Emit b = refl
-body_split kind.State b = check_cases (λ (a : Bool) (n : ℕ) (c : Result (Unit {0}) Refusal). cond a 0 n ≡ n) (state_from_body b) (λ c. refl) (λ _. refl)
+body_split kind.State b =
+    check_cases (λ (a : Bool) (n : ℕ) (c : Result (Unit {0}) Refusal). cond a 0 n ≡ n) (state_from_body b) (λ c. refl) (λ _. refl)
 body_split kind.WideKey b = refl
 
 -- P of a refusal, and P of a record that can be taken, give P of what was read.
@@ -88,7 +71,8 @@ module _ (P : Result Reading Refusal → Type 0) where
     abbrev Q : ℕ → Result Reading Refusal → Type 0
     Q n a = record_number (x ∷ b) ≡ n → P a
 
-    record_cases : (k : Kind) → x ≡ kind_byte k → body_length k ≤ length b → Free (record_from_body k b) → Small k b → Q 0 (took (record_from_body k b))
+    record_cases : (k : Kind) → x ≡ kind_byte k → body_length k ≤ length b → Free (record_from_body k b) → specular_in k b ≤ 1 →
+        Q 0 (took (record_from_body k b))
     record_cases k e h f s n =
         let r = record_from_body k b in
         let of_kind : kind_of r ≡ k = kind_again k b in
@@ -107,10 +91,10 @@ module _ (P : Result Reading Refusal → Type 0) where
     body_cases : (k : Kind) → x ≡ kind_byte k → body_length k ≤ length b → Q (body_number k b) (read_body k b)
     unfolding read_body
     body_cases k e h =
+        let r = record_from_body k b in
         subst (λ (n : ℕ). Q n (read_body k b)) (body_split k b)
-        (value_cases (λ (n : ℕ) (a : Result (Unit {0}) Refusal). Q n (a >>= (λ _. checked_specular k b >>= (λ _. took (record_from_body k b)))))
-        (record_from_body k b) (specular_number k b) refusal (λ f.
-        specular_cases (λ (n : ℕ) (a : Result (Unit {0}) Refusal). Q n (a >>= (λ _. took (record_from_body k b)))) k b refusal (λ s. record_cases k e h f s)))
+        (value_cases (λ (n : ℕ) (a : Result (Unit {0}) Refusal). Q n (a >>= (λ _. cond (ltb 1 (specular_in k b)) (Err SpecularAdd) (took r)))) r _ refusal (λ f.
+        either Q (ltb 1 (specular_in k b)) _ _ _ _ (λ _. refusal SpecularAdd) (λ s. record_cases k e h f (ltb-false _ _ s))))
 
     as_cases : (k : Kind) → x ≡ kind_byte k → Q (cond (ltb (length b) (body_length k)) 1 (body_number k b)) (read_as k b)
     unfolding read_as
@@ -120,7 +104,9 @@ module _ (P : Result Reading Refusal → Type 0) where
   unfolding read_record record_number
   read_either [] refusal taken = refusal CutShort refl
   read_either (x ∷ b) refusal taken =
-      kind_cases (λ (k : Result Kind Refusal). record_number (x ∷ b) ≡ number_by k (λ k. cond (ltb (length b) (body_length k)) 1 (body_number k b)) → P (k >>= (λ k. read_as k b))) x
+      kind_cases
+      (λ (named : Result Kind Refusal).
+      Q x b refusal taken (number_by named (λ k. cond (ltb (length b) (body_length k)) 1 (body_number k b))) (named >>= (λ k. read_as k b))) x
       (as_cases x b refusal taken) (refusal UnknownKind) refl
 
 -- P of a refusal, and P of a record of each kind; a key is of either kind, and what its kind has of it
@@ -171,7 +157,10 @@ pub read_taken : (b : List ℕ) (r : Reading) → read_record b ≡ Ok r → Tak
 read_taken b r =
     read_either (λ (a : Result Reading Refusal). a ≡ Ok r → Taken b r.«record» × (record_length (kind_of r.«record») ≡ r.length)) b
     (λ c n e. absurd (let z : ◌≡◌ {A = ℕ} 0 1 = cc in omega arith))
-    (λ s t e. let m : s ≡ r.«record» = cc in let n : record_length (kind_of s) ≡ r.length = cc in (subst (Taken b) m t, ap (λ (r : Record). record_length (kind_of r)) (sym m) ∙ n))
+    (λ s t e.
+    let same : s ≡ r.«record» = cc in
+    let n : record_length (kind_of s) ≡ r.length = cc in
+    (subst (Taken b) same t, ap (λ (r : Record). record_length (kind_of r)) (sym same) ∙ n))
 
 -- The bytes are those of the record that was taken, and what stands behind them.
 pub front : (b : List ℕ) (r : Record) → Taken b r → Bytes b → b ≡ record_bytes r ++ drop (record_length (kind_of r)) b

@@ -1,10 +1,11 @@
 -- "Every record written reads back as itself; every record read writes back to its bytes."
 use mathlib.Core.Path.{◌≡◌, refl, ap, ◌∙◌}
-use mathlib.Core.Bool.{Bool, true, false, cond}
+use mathlib.Core.Bool.{Bool, true, false}
 use mathlib.Core.List.{List, ◌++◌}
 use Prim.Native.Nat.{ℕ, ◌≤◌}
 use native.Mathlib.Omega.{arith}
 use borrow.Author.Tests.{le-ltb}
+use lib.Dec.{ltb}
 use lib.ListN.{length, take, drop, length-append}
 use lib.Seq.{length-take-le}
 use Rattle.std.specs.Prelude.{Result, Ok}
@@ -15,25 +16,25 @@ use Rattle.values.specs.declared.Entry.{Entry}
 use Rattle.values.specs.declared.StateWrite.{StateWrite}
 use Rattle.wire.specs.Bodies.{kind_byte, kind_of, body_length, record_length, body_bytes, record_bytes}
 use Rattle.wire.specs.Values.{key_as, key_record, own}
-use Rattle.wire.specs.Reading.{kind_from, took, checked_specular, read_body, read_as, read_record}
+use Rattle.wire.specs.Reading.{kind_from, took, specular_in, read_body, read_as, read_record}
 use Rattle.wire.specs.Writing.{write_answer, after_writing}
 use Rattle.wire.specs.declared.Kind.{Kind}
 use Rattle.wire.specs.declared.Kind.TheVariants as kind
 use Rattle.wire.specs.declared.Record.{Record}
 use Rattle.wire.specs.declared.Record.TheVariants as rec
 use Rattle.wire.specs.declared.Reading.{Reading}
-use Rattle.wire.proofs.Bodies.{Shaped, Bytes, Free, key_shaped, body-length, record_back, specular_back}
+use Rattle.wire.proofs.Bodies.{Shaped, Bytes, Free, of_either, key_shaped, body-length, record_back, specular_back}
 use Rattle.wire.proofs.Causes.{free_checks, own_free}
 use Rattle.wire.proofs.Found.{read_taken}
 use Rattle.wire.proofs.Written.{fits_writes, wrote}
 
-known : (k : Kind) → kind_from (kind_byte k) ≡ Ok k
-known kind.Key = refl
-known kind.Variant = refl
-known kind.Entry = refl
-known kind.Emit = refl
-known kind.State = refl
-known kind.WideKey = refl
+pub kind_known : (k : Kind) → kind_from (kind_byte k) ≡ Ok k
+kind_known kind.Key = refl
+kind_known kind.Variant = refl
+kind_known kind.Entry = refl
+kind_known kind.Emit = refl
+kind_known kind.State = refl
+kind_known kind.WideKey = refl
 
 own_kind : (r : Record) → kind_of (own r) ≡ kind_of r
 own_kind (rec.Key k) = refl
@@ -43,14 +44,14 @@ own_kind rec.Emit = refl
 own_kind (rec.State w) = refl
 own_kind (rec.WideKey k) = refl
 
-specular_reads : (r : Record) (x : List ℕ) → Shaped r → checked_specular (kind_of r) (body_bytes r ++ x) ≡ Ok tt
+specular_reads : (r : Record) (x : List ℕ) → Shaped r → ltb 1 (specular_in (kind_of r) (body_bytes r ++ x)) ≡ false
 unfolding body_bytes
-specular_reads (rec.Key k) x h = rw (specular_back false k x h)
+specular_reads (rec.Key k) x h = specular_back false k x h
 specular_reads (rec.Variant v) x h = refl
 specular_reads (rec.Entry e) x h = refl
 specular_reads rec.Emit x h = refl
 specular_reads (rec.State w) x h = refl
-specular_reads (rec.WideKey k) x h = rw (specular_back true k x h)
+specular_reads (rec.WideKey k) x h = specular_back true k x h
 
 -- a body of a value without a cause, whatever stands behind it, is read as what the record has of the value
 module _ (r : Record) (x : List ℕ) (h : Shaped r) where
@@ -66,7 +67,7 @@ module _ (r : Record) (x : List ℕ) (h : Shaped r) where
   -- A record without a cause, followed by anything, is read as what it has of its value, and takes as many bytes as it has.
   pub bytes_read : Free r → read_record (record_bytes r ++ x) ≡ took (own r)
   unfolding read_record
-  bytes_read f = rw (known (kind_of r)) (as_reads f)
+  bytes_read f = rw (kind_known (kind_of r)) (as_reads f)
 
 -- what is read of n bytes
 abbrev Reads : Record → ℕ → Result Reading Refusal
@@ -95,11 +96,9 @@ written_reads_back r e h out n a = own_reads_back r out n h a ∙ ap (λ (r : Re
 -- So a variant, an entry, a request for a text and a state write do, and a key of kind 6. A key of kind 1 comes back as what kind 1 has of it: itself,
 -- but that its arguments 0 are their default.
 pub key_reads_back : (k : Key) → length k.stages ≡ 8 → ReadsAs (key_record k) (key_record (key_as k.wide k))
-key_reads_back k h out n a = own_reads_back (key_record k) out n (key_shaped k h) a ∙ ap (λ (r : Record). Reads r n) (go k.wide)
-  where
-    go : (wide : Bool) → own (cond wide (rec.WideKey k) (rec.Key k)) ≡ key_record (key_as wide k)
-    go true = refl
-    go false = refl
+key_reads_back k h out n a =
+    let e = of_either (λ (wide : Bool) (r : Record). own r ≡ key_record (key_as wide k)) k refl refl in
+    own_reads_back (key_record k) out n (key_shaped k h) a ∙ ap (λ (r : Record). Reads r n) e
 
 pub wide_key_reads_back : (k : Key) → length k.stages ≡ 8 → k.wide ≡ true → ReadsBack (key_record k)
 wide_key_reads_back k h w = written_reads_back (key_record k) (rw w) (key_shaped k h)

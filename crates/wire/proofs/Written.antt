@@ -35,11 +35,13 @@ module _ (P : Result ℕ Refusal → Type 0) (r : Record) (room : ℕ) where
   write_cases refusal written =
       value_cases (λ (n : ℕ) (a : Result (Unit {0}) Refusal). Q n (a >>= (λ _. write_into room r))) r _ refusal (λ f.
       either Q (ltb room (record_length (kind_of r))) _ _ _ _ (λ _. refusal NoRoom) (λ s n.
-      written (record { number = n; free = f; fits = ltb-false _ _ s }))) refl
+      written (record { number = n; free = f; fits = ltb-false _ _ s })))
+      refl
 
 -- The writer's number is that of 01's table.
 pub write_number_lem : {a : Result ℕ Refusal} (r : Record) (room : ℕ) → a ≡ write_answer r room → number_in a ≡ written_number r room
-write_number_lem r room e = ap number_in e ∙ write_cases (λ (a : Result ℕ Refusal). number_in a ≡ written_number r room) r room (λ c n. sym n) (λ w. sym w.number)
+write_number_lem r room e =
+    ap number_in e ∙ write_cases (λ (a : Result ℕ Refusal). number_in a ≡ written_number r room) r room (λ c n. sym n) (λ w. sym w.number)
 
 -- what the answer `Ok` tells
 pub wrote : (r : Record) (room n : ℕ) → write_answer r room ≡ Ok n → Written r room × (record_length (kind_of r) ≡ n)

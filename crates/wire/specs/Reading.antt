@@ -32,21 +32,20 @@ kind_from n =
 abbrev pub took : Record → Result Reading Refusal
 took r = Ok (record { «record» = r; length = record_length (kind_of r) })
 
--- 4, "specular above 1", of a key of either kind. 02, Nine: "Flags and specular are checked as for kind 1"
-abbrev pub checked_specular : Kind → List ℕ → Result (Unit {0}) Refusal
-checked_specular kind.Key b = cond (ltb 1 (specular_byte false b)) (Err SpecularAdd) (Ok tt)
-checked_specular kind.Variant b = Ok tt
-checked_specular kind.Entry b = Ok tt
-checked_specular kind.Emit b = Ok tt
-checked_specular kind.State b = Ok tt
-checked_specular kind.WideKey b = cond (ltb 1 (specular_byte true b)) (Err SpecularAdd) (Ok tt)
+-- specular add in the body of a key of either kind; the others have none
+abbrev pub specular_in : Kind → List ℕ → ℕ
+specular_in kind.Key b = specular_byte false b
+specular_in kind.Variant b = 0
+specular_in kind.Entry b = 0
+specular_in kind.Emit b = 0
+specular_in kind.State b = 0
+specular_in kind.WideKey b = specular_byte true b
 
--- the causes of the value that the body stands for, and behind them 4
+-- the causes of the value that the body stands for, and behind them 4, "specular above 1". 02, Nine: "Flags and specular are checked as for kind 1"
 unfoldable pub read_body : Kind → List ℕ → Result Reading Refusal
 read_body k b = do
   _ ← checked_record (record_from_body k b)
-  _ ← checked_specular k b
-  took (record_from_body k b)
+  cond (ltb 1 (specular_in k b)) (Err SpecularAdd) (took (record_from_body k b))
 
 -- 1: "body cut short"
 unfoldable pub read_as : Kind → List ℕ → Result Reading Refusal

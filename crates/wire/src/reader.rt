@@ -3,7 +3,7 @@ ghost use Rattle.std.specs.Prelude.{◌+◌, ◌*◌, ◌≤◌, ◌<◌, ◌≡
 ghost use Rattle.values.specs.Refusals.{number_in};
 ghost use Rattle.wire.specs.Bodies.{body_length, entry_from_body, key_from_body, key_kind, mask_at, record_from_body, specular_at};
 ghost use Rattle.wire.specs.Bodies.{stage_from_bytes, stage_size, stages_from_bytes, state_from_body, variant_from_body};
-ghost use Rattle.wire.specs.Reading.{checked_specular, read_as, read_record, record_number};
+ghost use Rattle.wire.specs.Reading.{read_as, read_record, record_number, specular_in};
 
 use crate::checks::check_record;
 use crate::{Kind, Reading, Record, body_length, record_length};
@@ -153,20 +153,16 @@ fn record_from_body(kind: Kind, body: &[u8]) -> Record
     }
 }
 
-// The value has specular add as a yes or no, so that its byte is checked here.
-fn check_specular(kind: Kind, body: &[u8]) -> Result<(), Refusal>
+// The byte of specular add, which is a yes or no in the value of a key.
+fn specular_in(kind: Kind, body: &[u8]) -> u8
     requires { body_length kind ≤ length body.now }
-    ensures { result ≡ checked_specular kind body.now }
+    ensures { result ≡ specular_in kind body.now }
 {
-    let at = match kind {
-        Kind::Key => SPECULAR_AT,
-        Kind::WideKey => WIDE_SPECULAR_AT,
-        _ => return Ok(()),
-    };
-    if 1 < body[at] {
-        return Err(Refusal::SpecularAdd);
+    match kind {
+        Kind::Key => body[SPECULAR_AT],
+        Kind::WideKey => body[WIDE_SPECULAR_AT],
+        _ => 0,
     }
-    Ok(())
 }
 
 #[tactic(auto, unfolding(crate::specs::Reading::read_as, crate::specs::Reading::read_body))]
@@ -178,7 +174,9 @@ fn read_as(kind: Kind, body: &[u8]) -> Result<Reading, Refusal>
     }
     let record = record_from_body(kind, body);
     check_record(record)?;
-    check_specular(kind, body)?;
+    if 1 < specular_in(kind, body) {
+        return Err(Refusal::SpecularAdd);
+    }
     Ok(Reading {
         record,
         length: record_length(kind),
@@ -186,7 +184,7 @@ fn read_as(kind: Kind, body: &[u8]) -> Result<Reading, Refusal>
 }
 
 // The record at the front of the bytes. Those behind it are not looked at.
-#[tactic(auto, unfolding(crate::specs::Reading::read_record))]
+#[tactic(auto, unfolding(crate::specs::Reading::read_record, crate::specs::Reading::record_number), using(crate::proofs::Found::read_number_lem))]
 pub fn read(bytes: &[u8]) -> Result<Reading, Refusal>
     ensures record { result ≡ read_record bytes.now }
     ensures number { number_in result ≡ record_number bytes.now }

@@ -1,9 +1,10 @@
 //! The writer: a record's bytes at the front of a lent buffer, or why there are none.
-ghost use Rattle.std.specs.Prelude.{◌≡◌, length};
+ghost use Rattle.std.specs.Prelude.{◌≡◌, ◌≤◌, ◌++◌, drop, length};
 ghost use Rattle.text.specs.Text.{raw};
 ghost use Rattle.text.specs.Buffer.{Wrote};
 ghost use Rattle.values.specs.Refusals.{number_in};
-ghost use Rattle.wire.specs.Bodies.{body_bytes, entry_bytes, key_bytes, kind_of, mask_bytes, masks_bytes, record_bytes, record_length, stage_bytes, stages_bytes, state_bytes, variant_bytes};
+ghost use Rattle.wire.specs.Bodies.{body_bytes, body_length, kind_of, record_bytes, record_length};
+ghost use Rattle.wire.specs.Bodies.{entry_bytes, key_bytes, mask_bytes, masks_bytes, stage_bytes, stages_bytes, state_bytes, variant_bytes};
 ghost use Rattle.wire.specs.Writing.{after_writing, write_answer, written_number};
 
 use crate::checks::check_record;
@@ -36,7 +37,6 @@ fn put_stages(out: &mut [u8], at: usize, stages: &[Stage; 8], wide: bool) -> usi
     p
 }
 
-// The record's kind says whether the key is written as wide.
 fn put_key(out: &mut [u8], at: usize, key: Key, wide: bool) -> usize
     ensures { Wrote out.old at out.new result (raw (key_bytes wide key)) }
 {
@@ -84,21 +84,31 @@ fn put_state(out: &mut [u8], at: usize, write: StateWrite) -> usize
     put(out, a, &write.value.to_le_bytes())
 }
 
-fn put_record(out: &mut [u8], record: Record) -> usize
-    ensures written { Wrote out.old 0 out.new result (raw (record_bytes «record»)) }
-    ensures size { length (record_bytes «record») ≡ record_length (kind_of «record») }
+// The record's kind says whether a key is written as wide.
+#[tactic(auto, unfolding(crate::specs::Bodies::body_bytes))]
+fn put_body(out: &mut [u8], at: usize, record: Record) -> usize
+    ensures written { Wrote out.old at out.new result (raw (body_bytes «record»)) }
+    ensures size { length (body_bytes «record») ≡ body_length (kind_of «record») }
 {
-    let a = put(out, 0, &[u8::from(record.kind())]);
     match record {
-        Record::Key(key) => put_key(out, a, key, false),
-        Record::Variant(variant) => put_variant(out, a, variant),
-        Record::Entry(entry) => put_entry(out, a, entry),
-        Record::Emit => a,
-        Record::State(write) => put_state(out, a, write),
-        Record::WideKey(key) => put_key(out, a, key, true),
+        Record::Key(key) => put_key(out, at, key, false),
+        Record::Variant(variant) => put_variant(out, at, variant),
+        Record::Entry(entry) => put_entry(out, at, entry),
+        Record::Emit => at,
+        Record::State(write) => put_state(out, at, write),
+        Record::WideKey(key) => put_key(out, at, key, true),
     }
 }
 
+fn put_record(out: &mut [u8], record: Record)
+    requires { record_length (kind_of «record») ≤ length out.old }
+    ensures { out.new ≡ record_bytes «record» ++ drop (length (record_bytes «record»)) out.old }
+{
+    let a = put(out, 0, &[u8::from(record.kind())]);
+    put_body(out, a, record);
+}
+
+#[tactic(auto, using(crate::proofs::Written::write_number_lem))]
 pub fn write(record: Record, out: &mut [u8]) -> Result<usize, Refusal>
     ensures answer { result ≡ write_answer «record» (length out.old) }
     ensures buffer { out.new ≡ after_writing result (record_bytes «record») out.old }

@@ -11,4 +11,7 @@ loop-i-init g c = record { eight = search rules; read = refl }
 pub loop-i-preserved : goal.loop-i-preserved
 loop-i-preserved g c =
     let v = c.loop-i.invariant in
-    record { eight = simp length-set v.eight; read = rw (c.stage_at.ensures, c.stage_size.ensures) (stage_read _ c.args.body.now _ c.loop-i.i (omega arith) v.read) }
+    record {
+      eight = simp length-set v.eight;
+      read = rw (c.stage_at.ensures, c.stage_size.ensures) (stage_read _ c.args.body.now _ c.loop-i.i (omega arith) v.read);
+    }
