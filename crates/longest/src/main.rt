@@ -26,8 +26,6 @@ fn main(rt: HostRuntime) {
     let mut lines = [0u8; LINES_LENGTH];
     put_lines(&mut lines);
     if rt.stdout().write_all(&lines).is_err() {
-        let _ = rt
-            .stderr()
-            .write_all(b"standard output cannot be written\n");
+        let _ = eprintln!(rt; "standard output cannot be written");
     }
 }
