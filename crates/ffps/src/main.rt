@@ -40,7 +40,8 @@ fn read_some<R: Read>(from: &mut R, buf: &mut [u8]) -> io::Result<usize>
     Err(io::Error::from(ErrorKind::Interrupted))
 }
 
-// The input to its end. One read may bring fewer bytes than there are, and only a read behind a full buffer tells whether the input ends there.
+// The input to its end. One read may bring fewer bytes than there are, and only a read behind a full buffer tells whether the input ends there. The
+// loop counts, since `read_exact` does not tell how many bytes came before the end, and `read_to_end` takes a Vec.
 fn read_input<'a, R: Read>(from: &mut R, buffer: &'a mut [u8]) -> Result<&'a [u8], Untaken> {
     let mut n = 0;
     while n < buffer.len() {
