@@ -1,6 +1,6 @@
 -- Words as patterns, `#` standing for a digit from 0 to 7. Only contracts of private functions cite it: that the patterns are the reserved words is
 -- proved (`proofs/Reserved`).
-use Rattle.std.specs.Prelude.{ℕ, Bool, true, false, cond, ◌&&◌, List, [], ◌∷◌, ◌==◌, nat_le}
+use Rattle.std.specs.Prelude.{ℕ, zero, suc, Bool, true, false, cond, ◌&&◌, List, [], ◌∷◌, take, drop, ◌==◌, nat_le}
 use Prim.Native.Char.{code}
 
 -- a byte is the pattern's, or a digit from 0 to 7 at `#`
@@ -13,3 +13,8 @@ fits [] [] = true
 fits [] (c ∷ w) = false
 fits (p ∷ s) [] = false
 fits (p ∷ s) (c ∷ w) = fits_byte p c && fits s w
+
+-- the first k patterns of n bytes that stand behind one another
+abbrev pub cut : ℕ → ℕ → List ℕ → List (List ℕ)
+cut n zero l = []
+cut n (suc k) l = take n l ∷ cut n k (drop n l)

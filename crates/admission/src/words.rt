@@ -1,8 +1,8 @@
 //! Words that no entry may be. An everyday name is told from them by its length and its first bytes.
-ghost use Rattle.std.specs.Prelude.{◌≡◌, length};
+ghost use Rattle.std.specs.Prelude.{◌≡◌, ◌<◌, ◌/◌, length};
 ghost use Rattle.std.specs.List.{list_any};
 ghost use Rattle.values.specs.Words.{entry_reserved, reserved_word};
-ghost use Rattle.admission.specs.Patterns.{fits, fits_byte};
+ghost use Rattle.admission.specs.Patterns.{cut, fits, fits_byte};
 
 use crate::between;
 use values::Entry;
@@ -13,17 +13,22 @@ fn fits_byte(pattern: u8, c: u8) -> bool
     ((pattern == b'#') & between(b'0', c, b'7')) | ((pattern != b'#') & (pattern == c))
 }
 
-// Whether a name is a word in which `#` stands for a digit from 0 to 7.
-fn fits(word: &[u8], name: &[u8]) -> bool
-    ensures { result ≡ fits word.now name.now }
+// Whether a name fits a pattern, in which `#` stands for a digit from 0 to 7.
+fn fits(pattern: &[u8], name: &[u8]) -> bool
+    ensures { result ≡ fits pattern.now name.now }
 {
-    word.len() == name.len() && word.iter().zip(name).all(|(p, c)| fits_byte(*p, *c))
+    pattern.len() == name.len() && pattern.iter().zip(name).all(|(p, c)| fits_byte(*p, *c))
 }
 
-fn fits_any(words: &[&[u8]], name: &[u8]) -> bool
-    ensures { result ≡ list_any (λ w. fits w.now name.now) words.now }
+// Whether a name fits one of some patterns of its length, which stand behind one another. The compiler unrolls the search of such a literal; that of a
+// slice of slices, which was tried, took up to six times as many steps.
+fn fits_any(patterns: &[u8], name: &[u8]) -> bool
+    requires { 0 < length name.now }
+    ensures { result ≡ list_any (λ p. fits p name.now) (cut (length name.now) (length patterns.now / length name.now) patterns.now) }
 {
-    words.iter().any(|word| fits(word, name))
+    patterns
+        .chunks_exact(name.len())
+        .any(|pattern| fits(pattern, name))
 }
 
 // The reserved words by their length.
@@ -31,36 +36,22 @@ fn reserved(name: &[u8]) -> bool
     ensures { result ≡ reserved_word name.now }
 {
     match name.len() {
-        2 => fits_any(&[b"in", b"t#", b"s#", b"if"], name),
-        3 => fits_any(&[b"oC0", b"pc#", b"bc#"], name),
-        4 => fits_any(&[b"temp", b"ps_c", b"main", b"uint"], name),
-        5 => fits_any(
-            &[b"fog_c", b"fog_f", b"samp#", b"proj#", b"metal", b"float"],
-            name,
-        ),
+        2 => fits_any(b"int#s#if", name),
+        3 => fits_any(b"oC0pc#bc#", name),
+        4 => fits_any(b"tempps_cmainuint", name),
+        5 => fits_any(b"fog_cfog_fsamp#proj#metalfloat", name),
         6 => fits_any(
-            &[
-                b"fog_dz", b"vertex", b"kernel", b"struct", b"static", b"inline", b"return",
-                b"float2", b"float3", b"float4",
-            ],
+            b"fog_dzvertexkernelstructstaticinlinereturnfloat2float3float4",
             name,
         ),
-        7 => fits_any(&[b"current", b"FfPsOut", b"sampler"], name),
+        7 => fits_any(b"currentFfPsOutsampler", name),
         8 => fits_any(
-            &[
-                b"in_stage",
-                b"fog_data",
-                b"bump_env",
-                b"lod_bias",
-                b"Varyings",
-                b"fragment",
-                b"constant",
-            ],
+            b"in_stagefog_databump_envlod_biasVaryingsfragmentconstant",
             name,
         ),
-        9 => fits_any(&[b"alpha_ref", b"fog_range"], name),
-        11 => fits_any(&[b"point_coord"], name),
-        21 => fits_any(&[b"mtld3d_linear_to_srgb"], name),
+        9 => fits_any(b"alpha_reffog_range", name),
+        11 => fits_any(b"point_coord", name),
+        21 => fits_any(b"mtld3d_linear_to_srgb", name),
         _ => false,
     }
 }

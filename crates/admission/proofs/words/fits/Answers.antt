@@ -14,14 +14,14 @@ side_by_side [] (c ∷ w) h = absurd (omega arith)
 side_by_side (x ∷ p) [] h = absurd (omega arith)
 side_by_side (x ∷ p) (c ∷ w) h = rw (side_by_side p w (omega arith))
 
-pub returns-then-word-name : goal.returns-then-word-name
-returns-then-word-name c =
-    let p = c.args.word.now in
+pub returns-then-pattern-name : goal.returns-then-pattern-name
+returns-then-pattern-name c =
+    let p = c.args.pattern.now in
     let w = c.args.name.now in
     all_from_yields_List (λ (e : ℕ × ℕ). fits_byte e.0 e.1) c.all.new.self _ _ c.all.ensures.ran
-    (YieldsList-from_zip (YieldsList-from_slice p cc) (YieldsList-from_slice w cc)) (λ x b q k. search (rules, tests)) ∙ side_by_side p w c.if-word-name.true
+    (YieldsList-from_zip (YieldsList-from_slice p cc) (YieldsList-from_slice w cc)) (λ x b q k. search (rules, tests)) ∙ side_by_side p w c.if-pattern-name.true
 
-pub returns-else-word-name : goal.returns-else-word-name
-returns-else-word-name c =
-    let other = c.if-word-name.false in
-    rw (ne_eqb _ _ other, another_length c.args.word.now c.args.name.now other)
+pub returns-else-pattern-name : goal.returns-else-pattern-name
+returns-else-pattern-name c =
+    let other = c.if-pattern-name.false in
+    rw (ne_eqb _ _ other, another_length c.args.pattern.now c.args.name.now other)
