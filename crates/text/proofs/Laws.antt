@@ -99,10 +99,6 @@ same_piece e w = record { written = same e w.written; left = rw e at w.left }
 pub by_test : {l l' : List ℕ} {a a' : ℕ} {s : Text} (t : Bool → Text) (b c : Bool) → b ≡ c → flat s ≡ flat (t c) → Wrote l a l' a' s → Wrote l a l' a' (t b)
 by_test {l} {l'} {a} {a'} t b c e f w = subst (λ (b : Bool). Wrote l a l' a' (t b)) (sym e) (same f w)
 
--- a text by cases, of a value that is known
-pub case : {A : Type 0} (t : A → Text) (x y : A) (l l' : List ℕ) (a a' : ℕ) → x ≡ y → Wrote l a l' a' (t y) → Wrote l a l' a' (t x)
-case t x y l l' a a' e w = rw e w
-
 -- a test of a number that is known
 pub eqb_at : (x m n : ℕ) (b : Bool) → x ≡ m → eqb m n ≡ b → eqb x n ≡ b
 eqb_at x m n b e f = rw e f
