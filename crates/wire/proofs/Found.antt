@@ -125,15 +125,15 @@ module _ (k : Key) where
   key_in (rec.WideKey k) = k
   key_in r = k
 
-  pub key_settled : (wide : Bool) → key_as wide k ≡ k → (k.wide ≡ wide) × (wide_stages k ≡ k.stages)
+  pub key_kept : (wide : Bool) → key_as wide k ≡ k → (k.wide ≡ wide) × (wide_stages k ≡ k.stages)
   unfolding wide_stages
-  key_settled true e = let w : k.wide ≡ true = sym (ap (λ (k : Key). k.wide) e) in (w, rw w)
-  key_settled false e = let w : k.wide ≡ false = sym (ap (λ (k : Key). k.wide) e) in (w, rw w (ap (λ (k : Key). k.stages) e))
+  key_kept true e = let w : k.wide ≡ true = sym (ap (λ (k : Key). k.wide) e) in (w, rw w)
+  key_kept false e = let w : k.wide ≡ false = sym (ap (λ (k : Key). k.wide) e) in (w, rw w (ap (λ (k : Key). k.stages) e))
 
 module _ (P : Result Reading Refusal → Type 0) (b : List ℕ) (cases : Cases P b) where
   taken_cases : (r : Record) → Taken b r → P (took r)
   taken_cases (rec.Key k) t =
-      let s = key_settled k false (ap (key_in k) t.settled) in
+      let s = key_kept k false (ap (key_in k) t.settled) in
       let e : key_record k ≡ rec.Key k = rw s.0 in
       subst (λ (r : Record). P (took r)) e (cases.key k s.1 (subst (Taken b) (sym e) t))
   taken_cases (rec.Variant v) t = cases.variant v t
@@ -141,7 +141,7 @@ module _ (P : Result Reading Refusal → Type 0) (b : List ℕ) (cases : Cases P
   taken_cases rec.Emit t = cases.emit t
   taken_cases (rec.State w) t = cases.state w t
   taken_cases (rec.WideKey k) t =
-      let s = key_settled k true (ap (key_in k) t.settled) in
+      let s = key_kept k true (ap (key_in k) t.settled) in
       let e : key_record k ≡ rec.WideKey k = rw s.0 in
       subst (λ (r : Record). P (took r)) e (cases.key k s.1 (subst (Taken b) (sym e) t))
 

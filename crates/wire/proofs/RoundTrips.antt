@@ -16,6 +16,8 @@ use Rattle.values.specs.declared.Entry.{Entry}
 use Rattle.values.specs.declared.StateWrite.{StateWrite}
 use Rattle.wire.specs.Bodies.{kind_byte, kind_of, body_length, record_length, body_bytes, record_bytes}
 use Rattle.wire.specs.Values.{key_as, key_record, own}
+use Rattle.wire.specs.Steps.{◌>>=◌}
+use Rattle.wire.specs.Causes.{checked_record}
 use Rattle.wire.specs.Reading.{kind_from, took, specular_in, read_body, read_as, read_record}
 use Rattle.wire.specs.Writing.{write_answer, after_writing}
 use Rattle.wire.specs.declared.Kind.{Kind}
@@ -23,7 +25,7 @@ use Rattle.wire.specs.declared.Kind.TheVariants as kind
 use Rattle.wire.specs.declared.Record.{Record}
 use Rattle.wire.specs.declared.Record.TheVariants as rec
 use Rattle.wire.specs.declared.Reading.{Reading}
-use Rattle.wire.proofs.Bodies.{Shaped, Bytes, Free, of_either, key_shaped, body-length, record_back, specular_back}
+use Rattle.wire.proofs.Bodies.{Shaped, Bytes, of_either, key_shaped, body-length, record_back, specular_back}
 use Rattle.wire.proofs.Causes.{free_checks, own_free}
 use Rattle.wire.proofs.Found.{read_taken}
 use Rattle.wire.proofs.Written.{fits_writes, wrote}
@@ -53,21 +55,20 @@ specular_reads rec.Emit x h = refl
 specular_reads (rec.State w) x h = refl
 specular_reads (rec.WideKey k) x h = specular_back true k x h
 
--- a body of a value without a cause, whatever stands behind it, is read as what the record has of the value
+-- Bytes of a record, followed by anything, are read as what the record has of its value, unless that has a cause.
 module _ (r : Record) (x : List ℕ) (h : Shaped r) where
-  body_reads : Free r → read_body (kind_of r) (body_bytes r ++ x) ≡ took (own r)
+  body_reads : read_body (kind_of r) (body_bytes r ++ x) ≡ (checked_record (own r) >>= (λ _. took (own r)))
   unfolding read_body
-  body_reads f = rw (record_back r x h, free_checks (own r) (own_free r f), specular_reads r x h)
+  body_reads = simp (record_back r x h, specular_reads r x h)
 
-  as_reads : Free r → read_as (kind_of r) (body_bytes r ++ x) ≡ took (own r)
+  as_reads : read_as (kind_of r) (body_bytes r ++ x) ≡ (checked_record (own r) >>= (λ _. took (own r)))
   unfolding read_as
-  as_reads f =
-      rw (le-ltb (length (body_bytes r ++ x)) (body_length (kind_of r)) (simp length-append (omega (arith, body-length r h)))) (body_reads f)
+  as_reads =
+      rw (le-ltb (length (body_bytes r ++ x)) (body_length (kind_of r)) (simp length-append (omega (arith, body-length r h)))) body_reads
 
-  -- A record without a cause, followed by anything, is read as what it has of its value, and takes as many bytes as it has.
-  pub bytes_read : Free r → read_record (record_bytes r ++ x) ≡ took (own r)
+  pub bytes_read : read_record (record_bytes r ++ x) ≡ (checked_record (own r) >>= (λ _. took (own r)))
   unfolding read_record
-  bytes_read f = rw (kind_known (kind_of r)) (as_reads f)
+  bytes_read = rw (kind_known (kind_of r)) as_reads
 
 -- what is read of n bytes
 abbrev Reads : Record → ℕ → Result Reading Refusal
@@ -78,7 +79,7 @@ pub own_reads_back : (r : Record) (out : List ℕ) (n : ℕ) → Shaped r → wr
     read_record (after_writing (Ok n) (record_bytes r) out) ≡ Ok (record { «record» = own r; length = n })
 own_reads_back r out n h a =
     let w = wrote r (length out) n a in
-    bytes_read r _ h w.0.free ∙ ap (Reads (own r)) (ap record_length (own_kind r) ∙ w.1)
+    bytes_read r _ h ∙ rw (free_checks (own r) (own_free r w.0.free)) (ap (Reads (own r)) (ap record_length (own_kind r) ∙ w.1))
 
 -- Wherever the writer writes r, the reader finds f, in as many bytes as were written.
 abbrev pub ReadsAs : Record → Record → Type 0
