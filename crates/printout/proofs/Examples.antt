@@ -20,9 +20,7 @@ use Rattle.shader.specs.Worked.{z1_lines, lines_of}
 use Rattle.shader.specs.Whole.{varyings_text, srgb_helper_text, fragment_text, front_text, stage_in_text, samplers_text, parameters_text}
 use Rattle.shader.specs.Whole.{sprite_text, stages_text, locals_text, body_text, whole_text}
 use Rattle.wire.specs.Bodies.{stages_from_bytes, key_from_body, variant_from_body, entry_from_body}
-use Rattle.wire.specs.Values.{blank_key, blank_variant, blank_entry}
 use Rattle.wire.specs.Reading.{read_body, read_as, read_record}
-use Rattle.records.specs.Applying.{holding, apply_as, apply_read}
 use Rattle.states.specs.Writes.{checked_write}
 use Rattle.wire.specs.Bodies.{state_from_body}
 use Rattle.printout.specs.Program.{emit_line, end_line, refused_line, printed, printed_from, program_output}
@@ -32,26 +30,26 @@ unfolding program_output printed_from end_line decimal_of
 nothing = refl
 
 too_early : program_output (4 ∷ []) ≡ lines_of ("refused 7 at 0" ∷ [])
-unfolding program_output printed_from printed apply_read apply_as refused_line decimal_of read_record read_as read_body
+unfolding program_output printed_from printed refused_line decimal_of read_record read_as read_body
 too_early = refl
 
 -- 02, One: a write of colour op 4 at stage 0 is taken and prints nothing; an emit record behind it still lacks a variant and an entry; a write at stage
 -- 8 is refused for its stage, whatever its type and value are
 write_taken : program_output (5 ∷ 0 ∷ 1 ∷ 4 ∷ 0 ∷ 0 ∷ 0 ∷ []) ≡ lines_of ("end 0" ∷ [])
-unfolding program_output printed_from printed end_line decimal_of holding apply_read apply_as read_record read_as read_body state_from_body checked_write
+unfolding program_output printed_from printed end_line decimal_of read_record read_as read_body state_from_body checked_write
 write_taken = refl
 
 write_then_emit : program_output (5 ∷ 0 ∷ 1 ∷ 4 ∷ 0 ∷ 0 ∷ 0 ∷ 4 ∷ []) ≡ lines_of ("refused 7 at 7" ∷ [])
-unfolding program_output printed_from printed refused_line decimal_of holding apply_read apply_as read_record read_as read_body state_from_body checked_write
+unfolding program_output printed_from printed refused_line decimal_of read_record read_as read_body state_from_body checked_write
 write_then_emit = refl
 
 write_refused : program_output (5 ∷ 8 ∷ 7 ∷ 0 ∷ 1 ∷ 0 ∷ 0 ∷ []) ≡ lines_of ("refused 10 at 0" ∷ [])
-unfolding program_output printed_from printed refused_line decimal_of apply_read apply_as read_record read_as read_body state_from_body checked_write
+unfolding program_output printed_from printed refused_line decimal_of read_record read_as read_body state_from_body checked_write
 write_refused = refl
 
 -- 02, Nine: "kind 6 leaves 2"; 7 is still refused
 no_kind : program_output (7 ∷ []) ≡ lines_of ("refused 2 at 0" ∷ [])
-unfolding program_output printed_from printed refused_line decimal_of apply_read read_record
+unfolding program_output printed_from printed refused_line decimal_of read_record
 no_kind = refl
 
 -- 01's example: "a key with stage 0 op 1 and all else 0, a zero variant, entry `m`, emit"
@@ -64,7 +62,7 @@ keys = (1 ∷ 1 ∷ replicate 57 0) ∷ (6 ∷ 1 ∷ replicate 73 0) ∷ []
 
 example_printed : map (λ k. program_output (example k)) keys ≡ replicate 2 (lines_of ("emit 0 0 0 0 0 0 0" ∷ (z1_lines ++ ("end 1" ∷ []))))
 unfolding example keys program_output printed_from printed emit_line end_line decimal_of
-    holding apply_read apply_as read_record read_as read_body blank_key blank_variant blank_entry
+    read_record read_as read_body
     key_from_body stages_from_bytes variant_from_body entry_from_body
     effective_stages active stages_where last_constant any_factor rows_of live lookups_of reads_bump_env reported mask_from reports_from warned_stages
     stage_flags_bad all entry_good reserved_word answer_of

@@ -1,19 +1,20 @@
 -- What a loop of steps uses of each: the parts that it prints lie in their buffers, and what is left grows less.
 use mathlib.Core.Path.{◌≡◌, refl, sym}
-use mathlib.Core.Bool.{Bool, true, false, cond}
-use mathlib.Core.List.{List, []}
-use Prim.Native.Nat.{ℕ, suc, ◌-◌, ◌≤◌, ◌<◌}
+use mathlib.Core.List.{List}
+use Prim.Native.Nat.{ℕ, ◌≤◌}
 use native.Mathlib.Omega.{arith}
 use lib.Dec.{eqb}
 use lib.ListN.{length, take, drop, length-append}
+use Rattle.std.specs.Prelude.{Result, Ok, Err}
+use Rattle.std.proofs.lemmas.Bool.{cond_both}
 use Rattle.std.proofs.lemmas.List.{length-take-le}
-use Rattle.std.specs.Prelude.{Option, Some, None}
-use Rattle.std.specs.Bool.{then_some}
+use Rattle.values.specs.declared.Refusal.{Refusal}
+use Rattle.records.specs.Applying.{apply_answer, held_after}
 use Rattle.records.specs.declared.Held.{Held}
-use Rattle.records.specs.declared.ApplyAnswer.{ApplyAnswer}
-use Rattle.records.specs.declared.ApplyAnswer.TheVariants.{Replaced, Text, Refused}
-use Rattle.printout.specs.Program.{end_line, line_after, text_room}
-use Rattle.printout.specs.Steps.{Step, last_step, applied_at, answered_step, record_step, ready, step_of}
+use Rattle.records.specs.declared.Applied.{Applied}
+use Rattle.records.specs.declared.Applied.TheVariants.{Replaced, Text}
+use Rattle.printout.specs.Program.{line_after, text_room}
+use Rattle.printout.specs.Steps.{Step, answered_step, ready, step_of}
 use Rattle.printout.specs.declared.Session.{Session}
 use Rattle.printout.specs.declared.Printing.{Printing}
 use Rattle.printout.proofs.Taking.{Sized, sized}
@@ -22,28 +23,17 @@ use Rattle.printout.proofs.Printed.{less_left}
 abbrev Fits : Step → Type 0
 Fits t = (t.answer.line ≡ length t.line) × (t.answer.text ≤ length t.text)
 
-last_fits : (l : List ℕ) (s : Session) (out : List ℕ) → Fits (last_step l s out)
-last_fits l s out = (refl, omega arith)
-
-answered_fits : (a : ApplyAnswer) (h : Held) (s : Session) (out : List ℕ) → Sized s.held a → Fits (answered_step a h s out)
-unfolding answered_step
-answered_fits (Replaced m) h s out z = (refl, omega arith)
-answered_fits (Text m e) h s out z = (refl, rw z (simp length-append (omega arith)))
-answered_fits (Refused c) h s out z = (refl, omega arith)
-
-either : (t : Bool) (x y : Step) → Fits x → Fits y → Fits (cond t x y)
-either true x y p q = p
-either false x y p q = q
+answered_fits : (a : Result Applied Refusal) (h : Held) (s : Session) (out : List ℕ) → Sized s.held a → Fits (answered_step a h s out)
+answered_fits (Ok (Replaced m)) h s out z = (refl, omega arith)
+answered_fits (Ok (Text m e)) h s out z = (refl, rw z (simp length-append (omega arith)))
+answered_fits (Err c) h s out z = (refl, omega arith)
 
 step_fits : (s : Session) (b out : List ℕ) → Fits (step_of s b out)
-unfolding step_of
 step_fits s b out =
-    let end = last_step (end_line s.texts) s out in
-    let a = applied_at s b in
-    either (ready s b) (cond (eqb s.at (length b)) end (record_step s b out)) (last_step [] s out)
-    (either (eqb s.at (length b)) end (record_step s b out) (last_fits (end_line s.texts) s out)
-    (answered_fits a.answer a.held s out (sized s.held (drop s.at b) text_room)))
-    (last_fits [] s out)
+    cond_both (ready s b) _ _ Fits (λ _.
+    cond_both (eqb s.at (length b)) _ _ Fits (λ _. (refl, omega arith)) (λ _.
+    answered_fits (apply_answer s.held (drop s.at b) text_room) (held_after s.held (drop s.at b)) s out (sized s.held (drop s.at b) text_room)))
+    (λ _. (refl, omega arith))
 
 -- of what `step` answered and left in the buffers for the line and the text
 pub line_fits : (s : Session) (b out l : List ℕ) {p : Printing} {l' : List ℕ} →
@@ -62,16 +52,4 @@ pub text_taken : (s : Session) (b out : List ℕ) {p : Printing} {out' : List �
     p ≡ (step_of s b out).answer → out' ≡ (step_of s b out).text → p.text ≡ length (take p.text out')
 text_taken s b out {p} {out'} e g = sym (length-take-le p.text out' (text_fits s b out e g))
 
--- what is left of the input for a session, and nothing where none is next
-abbrev pub still_left : Option Session → List ℕ → ℕ
-still_left None b = 0
-still_left (Some s) b = suc (length b - s.at)
-
-pub goes_on : (s : Session) (b out : List ℕ) {p : Printing} → p ≡ (step_of s b out).answer → still_left (then_some p.more p.next) b < still_left (Some s) b
-goes_on s b out {p} e = go p.more refl
-  where
-    go : (m : Bool) → p.more ≡ m → still_left (then_some m p.next) b < still_left (Some s) b
-    go true q = let k = less_left s b out e q in omega arith
-    go false q = omega arith
-
-pub ruleset turn = (line_fits, text_fits, line_taken, text_taken, goes_on)
+pub ruleset turn = (line_fits, text_fits, line_taken, text_taken, less_left)

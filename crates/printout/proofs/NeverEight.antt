@@ -9,14 +9,15 @@ use lib.Dec.{eqb, ltb}
 use lib.ListN.{length, drop, get_or, length-append}
 use lib.Seq.{drop_at}
 use Rattle.text.specs.Text.{bytes, flat, decimal, decimal_of}
-use Rattle.values.specs.Refusals.{number_of}
+use Rattle.std.specs.Prelude.{Result, Ok, Err}
+use Rattle.std.proofs.lemmas.Bool.{cond_both}
+use Rattle.values.specs.Refusals.{number_of, number_in}
 use Rattle.values.specs.declared.Refusal.{Refusal}
 use Rattle.values.specs.declared.Refusal.TheVariants as refusal
-use Rattle.shader.specs.Results.{text_of}
-use Rattle.records.specs.Applying.{nothing_held, applied, apply_number}
+use Rattle.records.specs.Applying.{nothing_held, all_held, text_held, apply_answer, held_after}
 use Rattle.records.specs.declared.Held.{Held}
-use Rattle.records.specs.declared.ApplyAnswer.{ApplyAnswer}
-use Rattle.records.specs.declared.ApplyAnswer.TheVariants.{Replaced, Text, Refused}
+use Rattle.records.specs.declared.Applied.{Applied}
+use Rattle.records.specs.declared.Applied.TheVariants.{Replaced, Text}
 use Rattle.records.proofs.Room.{EightStages, nothing_held_eight, applied_eight, applied_never_eight}
 use Rattle.printout.specs.Program.{input_room, text_room, emit_line, end_line, refused_line, printed, printed_from, program_output}
 
@@ -29,31 +30,26 @@ behind : (x : List ℕ) {out : List ℕ} → Ends out → Ends (x ++ out)
 behind x (ended before n) = subst Ends (append_assoc x before (end_line n)) (ended (x ++ before) n)
 behind x (refused before c p f) = subst Ends (append_assoc x before (refused_line c p)) (refused (x ++ before) c p f)
 
-either : (t : Bool) (x y : List ℕ) → Ends x → Ends y → Ends (cond t x y)
-either true x y p q = p
-either false x y p q = q
-
-printed_ends : (a : ApplyAnswer) (p : ℕ) (h : Held) (go_on : ℕ → ℕ → List ℕ) → (apply_number a ≡ 8 → ⊥) → ((m more : ℕ) → Ends (go_on m more)) →
+printed_ends : (a : Result Applied Refusal) (p : ℕ) (h : Held) (go_on : ℕ → ℕ → List ℕ) → (number_in a ≡ 8 → ⊥) → ((m more : ℕ) → Ends (go_on m more)) →
     Ends (printed a p h go_on)
 unfolding printed
-printed_ends (Replaced m) p h go_on f g = g m 0
-printed_ends (Text m e) p h go_on f g = behind (emit_line e) (behind (text_of h.key h.variant h.entry) (g m 1))
-printed_ends (Refused c) p h go_on f g = refused [] c p f
+printed_ends (Ok (Replaced m)) p h go_on f g = g m 0
+printed_ends (Ok (Text m e)) p h go_on f g = behind (emit_line e) (behind (text_held (all_held h)) (g m 1))
+printed_ends (Err c) p h go_on f g = refused [] c p f
 
 from_ends : (turns p n : ℕ) (h : Held) (b : List ℕ) → EightStages h → Ends (printed_from turns p n h b)
 unfolding printed_from
 from_ends zero p n h b s = ended [] n
 from_ends (suc turns) p n h b s =
-    let a = applied h b text_room in
-    either (eqb (length b) 0) _ _ (ended [] n)
-    (printed_ends a.answer p h _ (applied_never_eight h s text_room (omega arith) b)
-    (λ m more. from_ends turns (p + m) (n + more) a.held (drop m b) (applied_eight h b text_room s)))
+    cond_both (eqb (length b) 0) _ _ Ends (λ _. ended [] n) (λ _.
+    printed_ends (apply_answer h b text_room) p h _ (applied_never_eight h s text_room (omega arith) b)
+    (λ m more. from_ends turns (p + m) (n + more) (held_after h b) (drop m b) (applied_eight h b s)))
 
 pub ends : (input : List ℕ) → Ends (program_output input)
 unfolding program_output
 ends input =
-    either (ltb input_room (length input)) _ _ (refused [] refusal.InputTooLong input_room (λ e. omega arith))
-    (from_ends (length input) 0 0 nothing_held input nothing_held_eight)
+    cond_both (ltb input_room (length input)) _ _ Ends (λ _. refused [] refusal.InputTooLong input_room (λ e. omega arith)) (λ _.
+    from_ends (length input) 0 0 nothing_held input nothing_held_eight)
 
 -- The same of the printed bytes. A line's words are found from its end, since no word has a space in it.
 abbrev space : ℕ

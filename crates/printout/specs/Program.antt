@@ -6,7 +6,7 @@ use Rattle.values.specs.declared.Emitted.{Emitted}
 use Rattle.values.specs.Refusals.{number_of}
 use Rattle.values.specs.declared.Refusal.{Refusal}
 use Rattle.values.specs.declared.Refusal.TheVariants.{InputTooLong}
-use Rattle.records.specs.Applying.{nothing_held, all_held, text_in, apply_answer, held_after}
+use Rattle.records.specs.Applying.{nothing_held, all_held, text_held, apply_answer, held_after}
 use Rattle.records.specs.declared.Held.{Held}
 use Rattle.records.specs.declared.Applied.{Applied}
 use Rattle.records.specs.declared.Applied.TheVariants.{Replaced, Text as Emits}
@@ -58,7 +58,7 @@ line_after line out = line ++ drop (length line) out
 -- what is printed for the answer to the record at offset p, h being held: go on m bytes further, with so many texts more, or stop
 unfoldable pub printed : Result Applied Refusal → ℕ → Held → (ℕ → ℕ → List ℕ) → List ℕ
 printed (Ok (Replaced m)) p h go_on = go_on m 0
-printed (Ok (Emits m e)) p h go_on = emit_line e ++ (text_in (all_held h) [] ++ go_on m 1)
+printed (Ok (Emits m e)) p h go_on = emit_line e ++ (text_held (all_held h) ++ go_on m 1)
 printed (Err c) p h go_on = refused_line c p
 
 -- What is printed for the bytes b from offset p on, behind n texts. 01: "the program stops with `end` when its input is used up." Each record

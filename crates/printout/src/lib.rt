@@ -5,7 +5,7 @@ pub mod lines;
 
 ghost use Rattle.std.specs.Prelude.{◌+◌, ◌<◌, ◌≤◌, ◌^◌, ◌≡◌, None, length};
 ghost use Rattle.printout.specs.Program.{line_after};
-ghost use Rattle.printout.specs.Steps.{begun, onwards, record_step, step_of, stepped};
+ghost use Rattle.printout.specs.Steps.{begun, onwards, ready, record_step, step_of, stepped};
 
 use lines::{LINE_LENGTH, put_emit_line, put_end_line, put_refused_line};
 use records::{Applied, Held};
@@ -67,6 +67,7 @@ fn on(session: Session, took: usize, texts: usize, after: Held) -> Session
 }
 
 // The record where the session stands, applied, and what is printed for it.
+#[tactic(auto, using(crate::proofs::Taking::replaced_fits, crate::proofs::Taking::text_fits))]
 fn step_record(
     session: Session,
     input: &[u8],
@@ -95,6 +96,13 @@ fn step_record(
     }
 }
 
+// Whether the session can belong to this input.
+fn ready(session: Session, input: &[u8]) -> bool
+    ensures { result ≡ ready session input.now }
+{
+    session.at <= input.len() && session.texts <= session.at
+}
+
 // What the session prints next for this input: for a record, or the line behind the last. A session whose offset lies beyond the input, or that
 // counts more texts than bytes read, cannot belong to this input, and prints nothing.
 pub fn step(
@@ -107,10 +115,7 @@ pub fn step(
     ensures line { line.new ≡ line_after (step_of session input.now text.old).line line.old }
     ensures text { text.new ≡ (step_of session input.now text.old).text }
 {
-    if input.len() < session.at {
-        return last(0);
-    }
-    if session.at < session.texts {
+    if !ready(session, input) {
         return last(0);
     }
     if session.at == input.len() {

@@ -1,6 +1,6 @@
 -- The held key, variant and entry, and the record at the front of some bytes applied to them.
 -- 01: "7, and 8 for a text, come from the call above it that reads a record and applies it."
-use Rattle.std.specs.Prelude.{ℕ, cond, List, eqb, get_or, take, Option, Some, None, Result, Ok, Err}
+use Rattle.std.specs.Prelude.{ℕ, cond, List, [], eqb, get_or, take, Option, Some, None, Result, Ok, Err}
 use Rattle.values.specs.declared.Key.{Key}
 use Rattle.values.specs.declared.Variant.{Variant}
 use Rattle.values.specs.declared.Entry.{Entry}
@@ -101,10 +101,14 @@ held_with (Err c) h = h
 abbrev pub held_after : Held → List ℕ → Held
 held_after h b = held_with (read_record b) h
 
--- the text of the values begins the buffer
+-- the text of the values; before all three are held there is none
+abbrev pub text_held : Option Values → List ℕ
+text_held None = []
+text_held (Some x) = text_of x.key x.variant x.entry
+
+-- it begins the buffer
 abbrev pub text_in : Option Values → List ℕ → List ℕ
-text_in None out = out
-text_in (Some x) out = in_front (text_of x.key x.variant x.entry) out
+text_in x out = in_front (text_held x) out
 
 abbrev pub text_after : Result Applied Refusal → Held → List ℕ → List ℕ
 text_after (Ok (Replaced n)) h out = out

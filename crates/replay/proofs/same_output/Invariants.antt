@@ -1,5 +1,5 @@
 -- The loop ends, since each record takes a byte at least.
-use Rattle.printout.proofs.Loops.{still_left}
+use Rattle.printout.proofs.Printed.{still_left}
 use Rattle.replay.proofs.same_output.Given as goal
 
 abbrev pub decreases-loop-next : goal.decreases-loop-next
