@@ -3,4 +3,5 @@ mod Guards
 pub mod Narrowing
 mod PlainStages
 pub mod Reports
+pub mod Surveys
 mod Walking

@@ -6,6 +6,7 @@ pub mod effective;
 pub mod keys;
 mod plain;
 pub mod reading;
+pub mod surveyed;
 pub mod walks;
 mod warnings;
 

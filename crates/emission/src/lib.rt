@@ -6,16 +6,14 @@ ghost use Rattle.text.specs.Text.{flat};
 ghost use Rattle.cascade.specs.Keys.{active};
 ghost use Rattle.cascade.specs.Effective.{effective_stages};
 ghost use Rattle.cascade.specs.Reading.{lookups_of};
-ghost use Rattle.cascade.specs.Survey.{survey_of};
 ghost use Rattle.shader.specs.Results.{answer_of, buffer_after, emission_number, front_of, in_front, text_of};
 ghost use Rattle.shader.specs.Whole.{whole_text};
 ghost use Rattle.shader.specs.Demand.{Demanded};
 ghost use Rattle.values.specs.Admitted.{Admitted};
 ghost use Rattle.values.specs.Refusals.{number_in};
 
-use cascade::Survey;
 use cascade::effective::effective;
-use cascade::walks::survey;
+use cascade::surveyed::Surveyed;
 use function::{Place, put_whole};
 use text::put;
 pub use values::{Combiner, Emitted, Entry, Key, Refusal, Stage, Variant};
@@ -28,19 +26,19 @@ const MOST_TEXT: usize = 6657;
 
 // Writes the text of a key with the stages that take effect to the front of out, if it fits; else out stays. A buffer as long as the longest text takes
 // it at once, and for a shorter one it is written aside.
-fn put_text(out: &mut [u8], k: Key, v: Variant, e: Entry, u: Survey) -> Place
-    requires { (u ≡ survey_of k.stages) × (e.len ≤ 32) }
-    ensures place { result.at ≡ length (flat (whole_text k v e)) }
-    ensures fits { length (flat (whole_text k v e)) ≤ length out.old → out.new ≡ in_front (flat (whole_text k v e)) out.old }
-    ensures over { length out.old < length (flat (whole_text k v e)) → out.new ≡ out.old }
-    ensures lookups { result.lookups ≡ lookups_of u.live (active k.stages) }
+fn put_text(out: &mut [u8], s: Surveyed, v: Variant, e: Entry) -> Place
+    requires { e.len ≤ 32 }
+    ensures place { result.at ≡ length (flat (whole_text s.key v e)) }
+    ensures fits { length (flat (whole_text s.key v e)) ≤ length out.old → out.new ≡ in_front (flat (whole_text s.key v e)) out.old }
+    ensures over { length out.old < length (flat (whole_text s.key v e)) → out.new ≡ out.old }
+    ensures lookups { result.lookups ≡ lookups_of s.survey.live (active s.key.stages) }
 {
     let takes_any = MOST_TEXT <= out.len();
     if takes_any {
-        return put_whole(out, k, v, e, u);
+        return put_whole(out, &s, v, e);
     }
     let mut aside = [0u8; MOST_TEXT];
-    let w = put_whole(&mut aside, k, v, e, u);
+    let w = put_whole(&mut aside, &s, v, e);
     let fits = w.at <= out.len();
     if fits {
         put(out, 0, &aside[..w.at]);
@@ -62,8 +60,9 @@ pub fn emit_checked(
     ensures names { Demanded key result out.new }
     ensures number { number_in result ≡ emission_number key variant entry (length out.old) }
 {
-    let u = survey(key);
-    let written = put_text(out, key, variant, entry, u);
+    let surveyed = Surveyed::new(key);
+    let written = put_text(out, surveyed, variant, entry);
+    let u = surveyed.survey;
     let short = out.len() < written.at;
     if short {
         return Err(Refusal::NoRoom);

@@ -6,7 +6,7 @@ ghost use Rattle.shader.specs.Output.{specular_text, fog_depth_text, fog_factor_
 use combiners::codes::*;
 use text::{put, put_decimal, put_either, put_when};
 use values::Variant;
-use variants::bits::{FOG_SOURCE_W, SAMPLE_MASK, SRGB_WRITE, flag, tested};
+use variants::bits::{fog_source_w, sample_mask, srgb_write, tested};
 
 // The line of specular add, and the declaration of the colour that the later lines change.
 fn put_specular(out: &mut [u8], at: usize, on: bool) -> usize
@@ -74,8 +74,7 @@ fn put_fog(out: &mut [u8], at: usize, v: Variant) -> usize
             b"    oC0 = float4(mix(fog_data[0].rgb, oC0.rgb, saturate(in.fog.x)), oC0.a);\n",
         )
     } else {
-        let w = flag(v, FOG_SOURCE_W);
-        let mut p = put_fog_depth(out, at, w);
+        let mut p = put_fog_depth(out, at, fog_source_w(v));
         p = put_fog_factor(out, p, v.fog_table_mode);
         put(
             out,
@@ -85,7 +84,7 @@ fn put_fog(out: &mut [u8], at: usize, v: Variant) -> usize
     }
 }
 
-// A code that Microsoft does not name tests true.
+// A code that Microsoft does not name tests true. Any byte may be one, and they are told apart here alone: an enum of them would be a second such match.
 fn put_comparison(out: &mut [u8], at: usize, f: u8) -> usize
     ensures { Wrote out.old at out.new result (comparison_text f) }
 {
@@ -126,7 +125,7 @@ fn put_srgb(out: &mut [u8], at: usize, on: bool) -> usize
 fn put_return(out: &mut [u8], at: usize, v: Variant) -> usize
     ensures { Wrote out.old at out.new result (return_text v) }
 {
-    if flag(v, SAMPLE_MASK) {
+    if sample_mask(v) {
         let mut p = put(out, at, b"    return FfPsOut { oC0, ");
         p = put_decimal(out, p, v.sample_mask as usize);
         put(out, p, b"u };\n}\n")
@@ -138,10 +137,9 @@ fn put_return(out: &mut [u8], at: usize, v: Variant) -> usize
 pub fn put_output(out: &mut [u8], at: usize, specular: bool, v: Variant) -> usize
     ensures { Wrote out.old at out.new result (output_text specular v) }
 {
-    let srgb = flag(v, SRGB_WRITE);
     let mut p = put_specular(out, at, specular);
     p = put_fog(out, p, v);
     p = put_test(out, p, v);
-    p = put_srgb(out, p, srgb);
+    p = put_srgb(out, p, srgb_write(v));
     put_return(out, p, v)
 }

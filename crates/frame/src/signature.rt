@@ -1,19 +1,19 @@
 //! The parameters of the function, and what its body begins with.
-ghost use Rattle.std.specs.Prelude.{◌<◌, ◌≡◌};
+ghost use Rattle.std.specs.Prelude.{◌≤◌, length};
 ghost use Rattle.text.specs.Text.{bytes, lit, when, ◌⊕◌};
 ghost use Rattle.text.specs.Marks.{numbered};
 ghost use Rattle.text.specs.Buffer.{Wrote};
-ghost use Rattle.cascade.specs.Keys.{active, active_count};
-ghost use Rattle.cascade.specs.Survey.{survey_of};
+ghost use Rattle.cascade.specs.Keys.{active};
 ghost use Rattle.shader.specs.Lookups.{type_text};
 ghost use Rattle.shader.specs.Whole.{stage_in_text, texture_parameter, sampler_parameter, samplers_text, parameters_text, sprite_text, locals_text};
 
-use cascade::Survey;
 use cascade::keys::textured;
+use cascade::surveyed::Surveyed;
 use shader::TextureType;
-use text::{put, put_either, put_numbered, put_when};
-use values::{Key, Variant};
-use variants::bits::{LOD_BIAS, POINT_SPRITE, flag, fogged, tested};
+use text::{put, put_either, put_when};
+use values::staged::put_staged;
+use values::{Stage, StageIndex, Variant};
+use variants::bits::{fogged, lod_bias, point_sprite, tested};
 use variants::kinds::texture_type_of;
 
 // The parameters up to the constants.
@@ -33,36 +33,24 @@ fn put_stage_in(out: &mut [u8], at: usize, sprite: bool) -> usize
 }
 
 // The parameter of stage i's texture.
-fn put_texture(out: &mut [u8], at: usize, t: TextureType, i: u8) -> usize
-    requires { i < 8 }
+fn put_texture(out: &mut [u8], at: usize, t: TextureType, i: StageIndex) -> usize
     ensures { Wrote out.old at out.new result (lit ",\n    " ⊕ type_text t ⊕ numbered i (bytes " s# [[texture(#)]]")) }
 {
     match t {
-        TextureType::Depth => put_numbered(out, at, b",\n    depth2d<float> s# [[texture(#)]]", i),
-        TextureType::Volume => put_numbered(
-            out,
-            at,
-            b",\n    texture3d<float> s# [[texture(#)]]",
-            i,
-        ),
-        TextureType::Cube => put_numbered(
-            out,
-            at,
-            b",\n    texturecube<float> s# [[texture(#)]]",
-            i,
-        ),
-        TextureType::Flat => put_numbered(out, at, b",\n    texture2d<float> s# [[texture(#)]]", i),
+        TextureType::Depth => put_staged(out, at, b",\n    depth2d<float> s# [[texture(#)]]", i),
+        TextureType::Volume => put_staged(out, at, b",\n    texture3d<float> s# [[texture(#)]]", i),
+        TextureType::Cube => put_staged(out, at, b",\n    texturecube<float> s# [[texture(#)]]", i),
+        TextureType::Flat => put_staged(out, at, b",\n    texture2d<float> s# [[texture(#)]]", i),
     }
 }
 
 // The parameters of stage i's texture and sampler.
-fn put_sampler(out: &mut [u8], at: usize, there: bool, v: Variant, i: u8) -> usize
-    requires { i < 8 }
+fn put_sampler(out: &mut [u8], at: usize, there: bool, v: Variant, i: StageIndex) -> usize
     ensures { Wrote out.old at out.new result (when there (texture_parameter v i ⊕ sampler_parameter i)) }
 {
     if there {
-        let p = put_texture(out, at, texture_type_of(v, i), i);
-        return put_numbered(out, p, b",\n    sampler samp# [[sampler(#)]]", i);
+        let p = put_texture(out, at, texture_type_of(v, i.number()), i);
+        return put_staged(out, p, b",\n    sampler samp# [[sampler(#)]]", i);
     }
     at
 }
@@ -101,26 +89,22 @@ pub fn put_locals(out: &mut [u8], at: usize, alive: bool) -> usize
     )
 }
 
-// A texture and a sampler for each stage of the mask.
-fn put_samplers(out: &mut [u8], at: usize, k: Key, n: usize, v: Variant) -> usize
-    requires { n ≡ active_count k.stages }
-    ensures { Wrote out.old at out.new result (samplers_text v 0 (active k.stages)) }
+// A texture and a sampler for each stage with a texture.
+fn put_samplers(out: &mut [u8], at: usize, stages: &[Stage], v: Variant) -> usize
+    requires { length stages.now ≤ 8 }
+    ensures { Wrote out.old at out.new result (samplers_text v 0 stages.now) }
 {
     let mut p = at;
-    let mut i = 0;
-    while i < n {
-        let s = k.stages[i];
-        p = put_sampler(out, p, textured(s), v, i as u8);
-        i += 1;
+    for (i, s) in stages.iter().enumerate() {
+        p = put_sampler(out, p, textured(*s), v, StageIndex::new(i as u8));
     }
     p
 }
 
-pub fn put_parameters(out: &mut [u8], at: usize, k: Key, v: Variant, u: Survey) -> usize
-    requires { u ≡ survey_of k.stages }
-    ensures { Wrote out.old at out.new result (parameters_text v (active k.stages)) }
+pub fn put_parameters(out: &mut [u8], at: usize, s: &Surveyed, v: Variant) -> usize
+    ensures { Wrote out.old at out.new result (parameters_text v (active s.now.key.stages)) }
 {
-    let mut p = put_stage_in(out, at, flag(v, POINT_SPRITE));
+    let mut p = put_stage_in(out, at, point_sprite(v));
     p = put_when(
         out,
         p,
@@ -136,15 +120,15 @@ pub fn put_parameters(out: &mut [u8], at: usize, k: Key, v: Variant, u: Survey) 
     p = put_when(
         out,
         p,
-        u.bump_env,
+        s.survey.bump_env,
         b",\n    constant float4 *bump_env [[buffer(12)]]",
     );
     p = put_when(
         out,
         p,
-        flag(v, LOD_BIAS),
+        lod_bias(v),
         b",\n    constant float4 *lod_bias [[buffer(11)]]",
     );
-    p = put_samplers(out, p, k, u.count, v);
+    p = put_samplers(out, p, s.active(), v);
     put(out, p, b"\n) {\n")
 }

@@ -1,33 +1,29 @@
 -- The loop over the active stages: what is still to be written, written, makes the whole.
 use Prim.Native.Nat.{ℕ, suc, ◌+◌, ◌*◌, ◌/◌, ◌%◌, ◌<◌, ◌≤◌}
 use mathlib.Core.Bool.{Bool, true, false, cond}
-use mathlib.Core.Path.{◌≡◌, refl, sym, ◌∙◌}
+use mathlib.Core.Path.{◌≡◌, ◌∙◌}
 use mathlib.Core.List.{List, ◌∷◌}
 use native.Mathlib.Omega.{arith}
 use native.Mathlib.Numerals.{add-one}
 use lib.Dec.{eqb}
-use Rattle.std.specs.Prelude.{Option, Some, None}
-use lib.ListN.{length, drop, get_or}
+use lib.ListN.{length, drop, get_or, drop_of_length-le}
+use lib.Seq.{drop-cons}
+use Rattle.std.specs.Prelude.{Option, None}
 use Rattle.text.specs.Text.{when}
 use Rattle.text.specs.Buffer.{Wrote}
-use Rattle.text.proofs.Laws.{◌⨾◌, keeps, nothing}
+use Rattle.text.proofs.Laws.{◌⨾◌, nothing}
 use Rattle.combiners.specs.Codes.{bit}
-use Rattle.cascade.specs.Keys.{active, active_count}
+use Rattle.cascade.specs.Keys.{active}
 use Rattle.cascade.specs.Stages.{decode}
 use Rattle.cascade.specs.Reading.{live, marked, lookups_of}
 use Rattle.cascade.specs.Survey.{marks_of, survey_of}
 use Rattle.values.specs.declared.Stage.{Stage}
 use Rattle.cascade.specs.declared.Survey.{Survey}
-use Rattle.cascade.specs.declared.Expressions.{Expressions}
-use Rattle.cascade.proofs.Active.{here, past}
 use Rattle.shader.specs.Lookups.{lookup_of, before_of, sample_text}
-use Rattle.shader.specs.Order.{Precedes}
 use Rattle.shader.specs.Output.{lod_bias}
 use Rattle.shader.specs.Whole.{stage_line, stages_text}
 use Rattle.values.specs.declared.Variant.{Variant}
-use Rattle.shader.specs.declared.Before.{Before}
-use Rattle.shader.specs.declared.Before.TheVariants.{Ordinary}
-use Rattle.bumps.proofs.Laws.{precedes}
+use Rattle.shader.specs.declared.BumpStage.{BumpStage}
 
 -- the lowest of the marks, and the others
 mark_first : (alive : Bool) (s : Stage) (r : List Stage) → eqb (marks_of alive (s ∷ r) % 2) 1 ≡ marked alive (s ∷ r)
@@ -61,42 +57,39 @@ fewer false n i h = omega arith
 
 module _ (v : Variant) (projected : ℕ) (alive : Bool) (l : List Stage) (out₀ : List ℕ) (at : ℕ) where
   -- The stages from number i on are still to be written into out at p, behind the stage before; m are their marks, and n lookups have been written.
-  pub record AtStage (out : List ℕ) (p : ℕ) (before : Before) (i m n : ℕ) : Type 0 where
-    pub rest : (out' : List ℕ) (p' : ℕ) → Wrote out p out' p' (stages_text v projected alive before i (drop i (active l)))
-        → Wrote out₀ at out' p' (stages_text v projected alive Ordinary 0 (active l))
-    pub kept : length out ≡ length out₀
-    pub ahead : Precedes before i
-    pub marks : m ≡ marks_of alive (drop i (active l))
-    pub counted : n + lookups_of alive (drop i (active l)) ≡ lookups_of alive (active l)
+  pub record AtStage (out : List ℕ) (p : ℕ) (before : Option BumpStage) (i m n : ℕ) : Type 0 where
+    pub rest : (out' : List ℕ) (p' : ℕ) → Wrote out p out' p' (stages_text v projected alive before i (drop i l))
+        → Wrote out₀ at out' p' (stages_text v projected alive None 0 l)
+    pub marks : m ≡ marks_of alive (drop i l)
+    pub counted : n + lookups_of alive (drop i l) ≡ lookups_of alive l
     pub few : n ≤ i
 
-  pub stages_start : (m : ℕ) → m ≡ marks_of alive (active l) → AtStage out₀ at Ordinary 0 m 0
-  stages_start m h = record { rest = λ o p w. w; kept = refl; ahead = tt; marks = h; counted = omega arith; few = omega arith }
+  pub stages_start : (m : ℕ) → m ≡ marks_of alive l → AtStage out₀ at None 0 m 0
+  stages_start m h = record { rest = λ o p w. w; marks = h; counted = omega arith; few = omega arith }
 
-  pub stages_turn : {out out₁ out₂ : List ℕ} {p p₁ p₂ m n n₁ : ℕ} {before : Before} (i : ℕ) (d : Stage) → i < active_count l → AtStage out p before i m n
+  pub stages_turn : {out out₁ out₂ : List ℕ} {p p₁ p₂ m n n₁ : ℕ} {before : Option BumpStage} (i : ℕ) (d : Stage) → i < length l
+      → AtStage out p before i m n
       → Wrote out p out₁ p₁ (when (eqb (m % 2) 1) (sample_text before (lookup_of v i) (lod_bias v) (bit projected i) i))
       → Wrote out₁ p₁ out₂ p₂ (stage_line alive i (get_or l i d) (decode (get_or l i d)))
       → n₁ ≡ cond (eqb (m % 2) 1) (suc n) n → AtStage out₂ p₂ (before_of i (get_or l i d)) (i + 1) (m / 2) n₁
   unfolding stages_text
   stages_turn {m = m} {n} {n₁} i d h inv w₁ w₂ e =
       let s = get_or l i d in
-      let r = drop (i + 1) (active l) in
-      let c = here l i d h in
+      let r = drop (suc i) l in
+      let c = drop-cons l i d h in
       let b : eqb (m % 2) 1 ≡ marked alive (s ∷ r) = rw (inv.marks, c) (mark_first alive s r) in
       record {
-        rest = λ o p x. inv.rest o p (rw (c, ← b, ← add-one i) (w₁ ⨾ w₂ ⨾ x));
-        kept = keeps w₂ ∙ (keeps w₁ ∙ inv.kept);
-        ahead = precedes i (i + 1) s (omega arith);
-        marks = rw (inv.marks, c) (mark_rest alive s r);
-        counted = rw (e, b) (counts alive s r n ∙ rw c at inv.counted);
+        rest = λ o p x. inv.rest o p (rw (c, ← b) (w₁ ⨾ w₂ ⨾ rw add-one at x));
+        marks = rw (inv.marks, c, add-one) (mark_rest alive s r);
+        counted = rw (e, b, add-one) (counts alive s r n ∙ rw c at inv.counted);
         few = rw e (fewer (eqb (m % 2) 1) n i inv.few);
       }
 
-  pub stages_end : {out : List ℕ} {p m n : ℕ} {before : Before} (i : ℕ) → active_count l ≤ i → AtStage out p before i m n
-      → Wrote out₀ at out p (stages_text v projected alive Ordinary 0 (active l)) × (n ≡ lookups_of alive (active l))
+  pub stages_end : {out : List ℕ} {p m n : ℕ} {before : Option BumpStage} (i : ℕ) → length l ≤ i → AtStage out p before i m n
+      → Wrote out₀ at out p (stages_text v projected alive None 0 l) × (n ≡ lookups_of alive l)
   unfolding stages_text lookups_of
   stages_end {out} {p} i h inv =
-      let c = past l i h in
+      let c = drop_of_length-le l h in
       (inv.rest out p (rw c (nothing out p)), omega (arith, rw c at inv.counted))
 
 -- what a survey says of the marks and of TEMP
@@ -107,13 +100,3 @@ survey_marks l u e = rw e
 pub survey_live : (l : List Stage) (u : Survey) → u ≡ survey_of l → u.live ≡ live (active l)
 unfolding survey_of
 survey_live l u e = rw e
-
--- the line of a decoded stage: none of a bump stage
-pub no_line : {out : List ℕ} {p : ℕ} (alive : Bool) (i : ℕ) (s : Stage) {d : Option Expressions} → d ≡ decode s → d ≡ None
-    → Wrote out p out p (stage_line alive i s (decode s))
-unfolding stage_line
-no_line {out = out} {p = p} alive i s e f = rw (sym e ∙ f) (nothing out p)
-
-pub a_line : {out out' : List ℕ} {p p' : ℕ} (alive : Bool) (i : ℕ) (s : Stage) {d : Option Expressions} {x : Expressions} → d ≡ decode s → d ≡ Some x
-    → Wrote out p out' p' (stage_line alive i s (Some x)) → Wrote out p out' p' (stage_line alive i s (decode s))
-a_line alive i s e f w = rw (sym e ∙ f) w

@@ -1,118 +1,104 @@
 //! The lookups and lines of the active stages.
-ghost use Rattle.std.specs.Prelude.{◌<◌, suc, ◌≡◌, cond};
+ghost use Rattle.std.specs.Prelude.{◌<◌, suc, ◌≡◌, cond, None};
 ghost use Rattle.text.specs.Text.{when};
 ghost use Rattle.text.specs.Buffer.{Wrote};
 ghost use Rattle.combiners.specs.Codes.{bit};
 ghost use Rattle.cascade.specs.Keys.{active};
 ghost use Rattle.cascade.specs.Reading.{lookups_of};
-ghost use Rattle.cascade.specs.Survey.{survey_of};
+ghost use Rattle.cascade.specs.Stages.{decode};
 ghost use Rattle.shader.specs.Lookups.{lookup_of, before_of, sample_text};
-ghost use Rattle.shader.specs.Order.{Precedes};
 ghost use Rattle.shader.specs.Output.{lod_bias};
 ghost use Rattle.shader.specs.Whole.{stage_line, stages_text};
-ghost use Rattle.shader.specs.declared.Before.TheVariants.{Ordinary};
 
 use crate::Place;
 use bumps::put_sample;
 use cascade::decode::decode;
 use cascade::keys::{is_bump, textured, to_temp};
 use cascade::reading::{is_lined, is_luminance};
-use cascade::{Expressions, Survey};
+use cascade::surveyed::Surveyed;
 use expressions::line::put_line;
-use shader::Before;
-use values::{Key, Stage, StageIndex, Variant};
-use variants::bits::{LOD_BIAS, bit, flag};
+use shader::{BumpStage, Sampling};
+use values::{Stage, StageIndex, Variant};
+use variants::bits::{bit, lod_bias};
 use variants::kinds::lookup_of;
 
-fn before_of(i: u8, s: Stage) -> Before
+#[tactic(auto, unfolding(shader::specs::Lookups::before_of))]
+fn before_of(i: StageIndex, s: Stage) -> Option<BumpStage>
     ensures { result ≡ before_of i s }
 {
     if is_bump(s) {
-        let t = textured(s);
-        let l = is_luminance(s);
-        return Before::Displacing(i, t, l);
+        Some(BumpStage {
+            stage: i,
+            textured: textured(s),
+            luminance: is_luminance(s),
+        })
+    } else {
+        None
     }
-    Before::Ordinary
+}
+
+fn sampling_of(v: Variant, projected: u8, i: StageIndex) -> Sampling
+    ensures { result ≡ record { stage = i; lookup = lookup_of v i; lod = lod_bias v; projected = bit projected i } }
+{
+    let n = i.number();
+    Sampling {
+        stage: i,
+        lookup: lookup_of(v, n),
+        lod: lod_bias(v),
+        projected: bit(projected as u16, n),
+    }
 }
 
 // The lookup of stage i, where it is marked, and one more lookup counted.
 fn put_marked(
     out: &mut [u8],
-    at: usize,
-    lookups: u8,
+    from: Place,
     marked: bool,
-    before: Before,
+    before: Option<BumpStage>,
     v: Variant,
     projected: u8,
-    i: u8,
+    i: StageIndex,
 ) -> Place
-    requires { (i < 8) × Precedes before i × (lookups < 8) }
-    ensures wrote { Wrote out.old at out.new result.at
+    requires { from.lookups < 8 }
+    ensures wrote { Wrote out.old from.at out.new result.at
         (when marked (sample_text before (lookup_of v i) (lod_bias v) (bit projected i) i)) }
-    ensures lookups_value { result.lookups ≡ cond marked (suc lookups) lookups }
+    ensures lookups_value { result.lookups ≡ cond marked (suc from.lookups) from.lookups }
 {
     if marked {
-        let f = lookup_of(v, i);
-        let a = put_sample(
-            out,
-            at,
-            before,
-            f,
-            flag(v, LOD_BIAS),
-            bit(projected as u16, i),
-            i,
-        );
         return Place {
-            at: a,
-            lookups: lookups + 1,
+            at: put_sample(out, from.at, before, sampling_of(v, projected, i)),
+            lookups: from.lookups + 1,
         };
     }
-    Place {
-        at: at,
-        lookups: lookups,
-    }
+    from
 }
 
-// The line of stage i, where it has one.
-fn put_stage_line(out: &mut [u8], at: usize, alive: bool, s: Stage, e: Expressions, i: u8) -> usize
-    requires { i < 8 }
-    ensures { Wrote out.old at out.new result (stage_line alive i s (Some e)) }
+// The line of stage i, where it has one: a bump stage has none.
+#[tactic(auto, unfolding(shader::specs::Whole::stage_line))]
+fn put_stage_line(out: &mut [u8], at: usize, alive: bool, s: Stage, i: StageIndex) -> usize
+    ensures { Wrote out.old at out.new result (stage_line alive i s (decode s)) }
 {
-    if is_lined(alive, s) {
-        return put_line(out, at, e, StageIndex::new(i), textured(s), to_temp(s));
+    match decode(s) {
+        Some(e) if is_lined(alive, s) => put_line(out, at, e, i, textured(s), to_temp(s)),
+        _ => at,
     }
-    at
 }
 
-pub(crate) fn put_stages(out: &mut [u8], at: usize, k: Key, v: Variant, u: Survey) -> Place
-    requires { u ≡ survey_of k.stages }
+pub(crate) fn put_stages(out: &mut [u8], at: usize, s: &Surveyed, v: Variant) -> Place
     ensures wrote { Wrote out.old at out.new result.at
-        (stages_text v k.projected u.live Ordinary 0 (active k.stages)) }
-    ensures lookups_value { result.lookups ≡ lookups_of u.live (active k.stages) }
+        (stages_text v s.now.key.projected s.now.survey.live None 0 (active s.now.key.stages)) }
+    ensures lookups_value { result.lookups ≡ lookups_of s.now.survey.live (active s.now.key.stages) }
 {
-    let n = u.count;
-    let alive = u.live;
-    let mut marks = u.marks;
-    let mut before = Before::Ordinary;
-    let mut p = at;
-    let mut lookups = 0;
-    let mut i = 0;
-    while i < n {
-        let s = k.stages[i];
-        let j = i as u8;
-        let w = put_marked(out, p, lookups, marks % 2 == 1, before, v, k.projected, j);
-        p = w.at;
-        lookups = w.lookups;
-        marks = marks / 2;
-        before = before_of(j, s);
-        i += 1;
-        let Some(e) = decode(s) else {
-            continue;
-        };
-        p = put_stage_line(out, p, alive, s, e, j);
+    let alive = s.survey.live;
+    let mut marks = s.survey.marks;
+    let mut before = None;
+    let mut place = Place { at, lookups: 0 };
+    for (i, stage) in s.active().iter().enumerate() {
+        let n = StageIndex::new(i as u8);
+        place = put_marked(out, place, marks % 2 == 1, before, v, s.key.projected, n);
+        place.at = put_stage_line(out, place.at, alive, *stage, n);
+        before = before_of(n, *stage);
+        marks /= 2;
     }
-    Place {
-        at: p,
-        lookups: lookups,
-    }
+    place
 }

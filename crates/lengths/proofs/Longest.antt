@@ -7,6 +7,7 @@ use native.Mathlib.Omega.{arith}
 use native.Mathlib.Nat.{le_trans}
 use lib.Dec.{T, eqb, leb, leb→le, lit≤}
 use lib.ListN.{length, length-take}
+use Rattle.std.specs.Prelude.{None}
 use Rattle.text.specs.Text.{size, flat, decimal_of, decimal}
 use Rattle.text.proofs.Laws.{flat-length}
 use Rattle.text.proofs.Size.{most, size_most}
@@ -19,7 +20,6 @@ use Rattle.cascade.proofs.Narrowing.{effective-length}
 use Rattle.shader.specs.Output.{sample_mask, point_sprite, lod_bias, fogged, tested, srgb_write, specular_text, fog_depth_text, fog_factor_text, fog_text, comparison_text, test_text, srgb_text, return_text, output_text}
 use Rattle.shader.specs.Whole.{varyings_text, srgb_helper_text, fragment_text, front_text, stage_in_text, samplers_text, parameters_text, sprite_line, sprite_text, locals_text, body_text, whole_text}
 use Rattle.shader.specs.Results.{text_of}
-use Rattle.shader.specs.declared.Before.TheVariants.{Ordinary}
 use Rattle.shader.proofs.Names.Truth.{and_fst, and_snd, cond_cases, below_at}
 use Rattle.shader.proofs.Names.Rules.{active_short}
 use Rattle.values.specs.Entries.{name_of, is_identifier, entry_good}
@@ -106,7 +106,7 @@ module _ (k : Key) (v : Variant) (e : Entry) (d : ℕ) (digits : size (decimal v
   ss = active k.stages
 
   rest_le : (spare : ℕ) → spare ≤ 46
-      → size (whole_text k v e) ≤ 2380 - spare + d + length (name_of e) + weight spare v k.projected (live ss) Ordinary 0 ss
+      → size (whole_text k v e) ≤ 2380 - spare + d + length (name_of e) + weight spare v k.projected (live ss) None 0 ss
   unfolding whole_text body_text weight
   rest_le spare h =
       omega (
@@ -131,7 +131,7 @@ module _ (k : Key) (v : Variant) (e : Entry) (d : ℕ) (digits : size (decimal v
         arith,
         flat-length (whole_text k v e),
         rest_le spare low,
-        stages_le colour alpha spare v k.projected (live ss) bound line-fits bump-fits last_Fits Ordinary tt 0 ss within
+        stages_le colour alpha spare v k.projected (live ss) bound line-fits bump-fits last_Fits None tt 0 ss within
             (omega (arith, active_short k.stages)),
       )
 

@@ -5,6 +5,7 @@ use mathlib.Core.Bool.{Bool, true, false, cond}
 use native.Mathlib.Omega.{arith}
 use native.Mathlib.Nat.{le_trans}
 use lib.Dec.{leb, leb→le, lit≤}
+use Rattle.std.specs.Prelude.{Option, Some, None}
 use Rattle.text.specs.Text.{size, decimal_of}
 use Rattle.text.proofs.Size.{most, size_most}
 use Rattle.combiners.specs.Codes.{bit}
@@ -15,8 +16,7 @@ use Rattle.shader.specs.declared.Coordinate.TheVariants.{Interpolated, Displaced
 use Rattle.shader.specs.declared.Lookup.{Lookup}
 use Rattle.shader.specs.declared.Lookup.TheVariants.{Fetch4, DepthFetch, DepthCompare, Plain}
 use Rattle.shader.specs.declared.TextureType.TheVariants.{Depth, Volume, Cube, Flat}
-use Rattle.shader.specs.declared.Before.{Before}
-use Rattle.shader.specs.declared.Before.TheVariants.{Ordinary, Displacing}
+use Rattle.shader.specs.declared.BumpStage.{BumpStage}
 use Rattle.shader.proofs.Names.Truth.{below_at}
 use Rattle.values.specs.declared.Variant.{Variant}
 use Rattle.lengths.proofs.Sums.{flag}
@@ -86,23 +86,27 @@ luminance_le false i n h = leb→le _ _ (below_at (scales false i) 8 n tt h)
 abbrev pub added : ℕ → ℕ
 added n = 237 + 6 * two_digits n
 
-unfoldable pub gain : Before → ℕ
-gain Ordinary = 0
-gain (Displacing n tex lum) = added n
+unfoldable pub gain : Option BumpStage → ℕ
+gain None = 0
+gain (Some b) = added b.stage
 
 -- a stage before this one
-abbrev pub Earlier : Before → Type 0
-Earlier Ordinary = Unit {0}
-Earlier (Displacing n tex lum) = n < 8
+abbrev pub Earlier : Option BumpStage → Type 0
+Earlier None = Unit {0}
+Earlier (Some b) = b.stage < 8
 
-pub sample_le : (p : Before) → Earlier p → (f : Lookup) (lod projected : Bool) (i : ℕ)
+pub sample_le : (p : Option BumpStage) → Earlier p → (f : Lookup) (lod projected : Bool) (i : ℕ)
     → size (sample_text p f lod projected i) ≤ 199 + 4 * flag (is_compare f) + gain p
 unfolding sample_text gain
-sample_le Ordinary h f lod projected i = omega (arith, own_le f lod projected i)
-sample_le (Displacing n true true) h f lod projected i = omega (arith, displacement_le projected i n h, displaced_le f lod i, luminance_le true i n h)
-sample_le (Displacing n true false) h f lod projected i = omega (arith, displacement_le projected i n h, displaced_le f lod i)
-sample_le (Displacing n false true) h f lod projected i = omega (arith, own_le f lod projected i, luminance_le false i n h)
-sample_le (Displacing n false false) h f lod projected i = omega (arith, own_le f lod projected i)
+sample_le None h f lod projected i = omega (arith, own_le f lod projected i)
+sample_le (Some b) h f lod projected i = go b.textured b.luminance
+  where
+    go : (tex lum : Bool) → size (sample_text (Some (record { stage = b.stage; textured = tex; luminance = lum })) f lod projected i)
+        ≤ 199 + 4 * flag (is_compare f) + added b.stage
+    go true true = omega (arith, displacement_le projected i b.stage h, displaced_le f lod i, luminance_le true i b.stage h)
+    go true false = omega (arith, displacement_le projected i b.stage h, displaced_le f lod i)
+    go false true = omega (arith, own_le f lod projected i, luminance_le false i b.stage h)
+    go false false = omega (arith, own_le f lod projected i)
 
 -- ---------------------------------------------------------------- parameters
 

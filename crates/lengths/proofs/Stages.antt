@@ -7,7 +7,7 @@ use mathlib.Core.List.{List, [], ◌∷◌}
 use native.Mathlib.Omega.{arith}
 use native.Mathlib.Nat.{le_trans}
 use lib.ListN.{length}
-use Rattle.std.specs.Prelude.{Some, None}
+use Rattle.std.specs.Prelude.{Option, Some, None}
 use Rattle.text.specs.Text.{size}
 use Rattle.text.proofs.Size.{size_most}
 use Rattle.combiners.specs.Codes.{bit}
@@ -17,8 +17,7 @@ use Rattle.cascade.specs.Stages.{expression_of, alpha_of, decode, line_text}
 use Rattle.shader.specs.Lookups.{lookup_of, before_of, sample_text}
 use Rattle.shader.specs.Output.{lod_bias}
 use Rattle.shader.specs.Whole.{texture_parameter, sampler_parameter, samplers_text, stage_line, stages_text}
-use Rattle.shader.specs.declared.Before.{Before}
-use Rattle.shader.specs.declared.Before.TheVariants.{Ordinary, Displacing}
+use Rattle.shader.specs.declared.BumpStage.{BumpStage}
 use Rattle.shader.proofs.Names.Truth.{cond_cases}
 use Rattle.values.specs.declared.Stage.{Stage}
 use Rattle.values.specs.declared.Variant.{Variant}
@@ -68,11 +67,11 @@ either_of true line spare = omega arith
 either_of false line spare = omega arith
 
 -- The stages from i on: what they write and declare, 7 if they read TEMP, and spare if one of them is a bump stage that is read.
-unfoldable pub weight : ℕ → Variant → ℕ → Bool → Before → ℕ → List Stage → ℕ
+unfoldable pub weight : ℕ → Variant → ℕ → Bool → Option BumpStage → ℕ → List Stage → ℕ
 weight spare v projected alive p i ss =
     size (stages_text v projected alive p i ss) + size (samplers_text v i ss) + 7 * flag (live ss) + cond (reads_bump_env alive ss) spare 0
 
-none_le : (spare : ℕ) (v : Variant) (projected : ℕ) (alive : Bool) (p : Before) (i : ℕ) → weight spare v projected alive p i [] ≡ 0
+none_le : (spare : ℕ) (v : Variant) (projected : ℕ) (alive : Bool) (p : Option BumpStage) (i : ℕ) → weight spare v projected alive p i [] ≡ 0
 unfolding weight stages_text samplers_text live reads_bump_env flag
 none_le spare v projected alive p i = omega arith
 
@@ -86,10 +85,10 @@ module _ (colour alpha : ℕ) where
   AllWithin (s ∷ r) = Within colour alpha s × AllWithin r
 
   module _ (spare : ℕ) (v : Variant) (projected : ℕ) (alive : Bool) where
-    abbrev weight_from : Before → ℕ → List Stage → ℕ
+    abbrev weight_from : Option BumpStage → ℕ → List Stage → ℕ
     weight_from = weight spare v projected alive
 
-    module _ (p : Before) (earlier : Earlier p) (i : ℕ) (s : Stage) (within : Within colour alpha s) (r : List Stage) where
+    module _ (p : Option BumpStage) (earlier : Earlier p) (i : ℕ) (s : Stage) (within : Within colour alpha s) (r : List Stage) where
       lookup_le : (size (texture_parameter v i) + size (sampler_parameter i)) + size (sample_text p (lookup_of v i) (lod_bias v) (bit projected i) i)
           ≤ 275 + gain p
       lookup_le = omega (arith, sample_le p earlier (lookup_of v i) (lod_bias v) (bit projected i) i, parameters_le v i)
@@ -118,7 +117,7 @@ module _ (colour alpha : ℕ) where
       unfolding before_of gain
       next_fits i s h = go (bump s)
         where
-          go : (b : Bool) → 275 + cond b spare line + gain (cond b (Displacing i (textured s) (luminance s)) Ordinary) + most (suc i) ≤ most i
+          go : (b : Bool) → 275 + cond b spare line + gain (cond b (Some (record { stage = i; textured = textured s; luminance = luminance s })) None) + most (suc i) ≤ most i
           go true = bump-fits i h
           go false = omega (arith, line-fits i h)
 
@@ -126,7 +125,7 @@ module _ (colour alpha : ℕ) where
       unfolding before_of
       earlier_next i s h = cond_cases (bump s) _ _ Earlier (λ t. h) (λ t. tt)
 
-      pub stages_le : (p : Before) → Earlier p → (i : ℕ) (ss : List Stage) → AllWithin ss → i + length ss ≤ 8
+      pub stages_le : (p : Option BumpStage) → Earlier p → (i : ℕ) (ss : List Stage) → AllWithin ss → i + length ss ≤ 8
           → weight_from p i ss ≤ gain p + most i
       stages_le p e i [] w h = omega (arith, none_le spare v projected alive p i)
       stages_le p e i (s ∷ []) w h =

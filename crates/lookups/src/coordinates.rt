@@ -1,27 +1,27 @@
 //! The coordinates of a stage, and where a lookup reads.
-ghost use Rattle.std.specs.Prelude.{◌<◌};
 ghost use Rattle.text.specs.Text.{lit, pick, ◌⊕◌};
 ghost use Rattle.text.specs.Buffer.{Wrote};
 ghost use Rattle.shader.specs.Lookups.{coordinate_text, quotient_text, uv_text};
 
 use shader::Coordinate;
-use text::{put, put_either, put_numbered};
+use text::{put, put_either};
+use values::StageIndex;
+use values::staged::put_staged;
 
-pub fn put_coordinate(out: &mut [u8], at: usize, i: u8, c: Coordinate) -> usize
-    requires { i < 8 }
+#[tactic(auto, unfolding(shader::specs::Lookups::coordinate_text))]
+pub fn put_coordinate(out: &mut [u8], at: usize, i: StageIndex, c: Coordinate) -> usize
     ensures { Wrote out.old at out.new result (coordinate_text i c) }
 {
     match c {
-        Coordinate::Interpolated => put_numbered(out, at, b"in.texcoord#", i),
-        Coordinate::Divided => put_numbered(out, at, b"pc#", i),
-        Coordinate::Displaced => put_numbered(out, at, b"bc#", i),
-        Coordinate::Projected => put_numbered(out, at, b"proj#", i),
+        Coordinate::Interpolated => put_staged(out, at, b"in.texcoord#", i),
+        Coordinate::Divided => put_staged(out, at, b"pc#", i),
+        Coordinate::Displaced => put_staged(out, at, b"bc#", i),
+        Coordinate::Projected => put_staged(out, at, b"proj#", i),
     }
 }
 
 // Two components of a coordinate, or three.
-fn put_swizzled(out: &mut [u8], at: usize, three: bool, i: u8, c: Coordinate) -> usize
-    requires { i < 8 }
+fn put_swizzled(out: &mut [u8], at: usize, three: bool, i: StageIndex, c: Coordinate) -> usize
     ensures { Wrote out.old at out.new result (coordinate_text i c ⊕ lit "." ⊕ pick three (lit "xyz") (lit "xy")) }
 {
     let p = put_coordinate(out, at, i, c);
@@ -33,10 +33,9 @@ pub(crate) fn put_tested_quotient(
     out: &mut [u8],
     at: usize,
     three: bool,
-    i: u8,
+    i: StageIndex,
     c: Coordinate,
 ) -> usize
-    requires { i < 8 }
     ensures { Wrote out.old at out.new result
         (coordinate_text i c ⊕ lit ".w != 0.0 ? " ⊕ quotient_text three (coordinate_text i c)) }
 {
@@ -54,10 +53,9 @@ pub(crate) fn put_uv(
     at: usize,
     projected: bool,
     three: bool,
-    i: u8,
+    i: StageIndex,
     c: Coordinate,
 ) -> usize
-    requires { i < 8 }
     ensures { Wrote out.old at out.new result (uv_text projected three (coordinate_text i c)) }
 {
     if projected {

@@ -26,8 +26,7 @@ use Rattle.values.specs.declared.Entry.{Entry}
 use Rattle.shader.specs.Lookups.{before_of}
 use Rattle.shader.specs.Whole.{samplers_text, parameters_text, stage_line, stages_text, body_text, whole_text}
 use Rattle.shader.specs.Results.{text_of, emitted_of, answer_of}
-use Rattle.shader.specs.declared.Before.{Before}
-use Rattle.shader.specs.declared.Before.TheVariants.{Ordinary}
+use Rattle.shader.specs.declared.BumpStage.{BumpStage}
 use Rattle.shader.proofs.Names.Truth.{false_of, neither_fst, neither_snd, cond_cases}
 
 -- no op has an argument 0
@@ -140,7 +139,7 @@ module _ (alive : Bool) where
   env_alike [] h = refl
   env_alike (s ∷ r) h = rw (env_alike r h.2, marked_alike r h.2, bump_alike s h.0 h.1)
 
-  stages_alike : (v : Variant) (projected : ℕ) (before : Before) (i : ℕ) (l : List Stage) → AllOfTwo l
+  stages_alike : (v : Variant) (projected : ℕ) (before : Option BumpStage) (i : ℕ) (l : List Stage) → AllOfTwo l
       → stages_text v projected alive before i (map seven_bytes l) ≡ stages_text v projected alive before i l
   unfolding stages_text
   stages_alike v projected before i [] h = refl
@@ -169,7 +168,7 @@ warnings_alike c l h = rw (reports_alike 0 l h)
 
 body_alike : (k : Key) (v : Variant) (l : List Stage) → AllOfTwo l → body_text (effective (narrow k)) v (map seven_bytes l) ≡ body_text (effective k) v l
 unfolding body_text parameters_text
-body_alike k v l h = rw (live_alike l h, env_alike (live l) l h, samplers_alike v 0 l, stages_alike (live l) v k.projected Ordinary 0 l h)
+body_alike k v l h = rw (live_alike l h, env_alike (live l) l h, samplers_alike v 0 l, stages_alike (live l) v k.projected None 0 l h)
 
 -- where the stages that take effect are those of the narrow key, but for arguments 0 that no op has
 module _ (k : Key) (e : effective_stages (narrow k) ≡ map seven_bytes (effective_stages k)) (h : AllOfTwo (effective_stages k)) where

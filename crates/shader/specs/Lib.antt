@@ -2,7 +2,6 @@ pub mod Lookups
 pub mod Output
 pub mod Whole
 pub mod Results
-pub mod Order
 pub mod Names
 pub mod Idle
 pub mod Demand

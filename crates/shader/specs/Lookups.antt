@@ -1,5 +1,5 @@
 -- Lookups: the texel of a stage read from its texture, at its own coordinate or at one that a bump stage displaces.
-use Rattle.std.specs.Prelude.{ℕ, ◌+◌, ◌*◌, Bool, true, false, not, ◌&&◌, ◌||◌, cond, [], ◌∷◌}
+use Rattle.std.specs.Prelude.{ℕ, ◌+◌, ◌*◌, Bool, true, false, not, ◌&&◌, ◌||◌, cond, [], ◌∷◌, Option, Some, None}
 use Rattle.text.specs.Text.{Text, lit, ◌⊕◌, pick, when, digit, decimal}
 use Rattle.text.specs.Format.{format, ◌≔◌}
 use Rattle.combiners.specs.Codes.{bit}
@@ -14,8 +14,7 @@ use Rattle.shader.specs.declared.Lookup.{Lookup}
 use Rattle.shader.specs.declared.Lookup.TheVariants.{Fetch4, DepthFetch, DepthCompare, Plain}
 use Rattle.shader.specs.declared.TextureType.{TextureType}
 use Rattle.shader.specs.declared.TextureType.TheVariants.{Depth, Volume, Cube, Flat}
-use Rattle.shader.specs.declared.Before.{Before}
-use Rattle.shader.specs.declared.Before.TheVariants.{Ordinary, Displacing}
+use Rattle.shader.specs.declared.BumpStage.{BumpStage}
 
 -- 01: "First that applies, by stage bit: fetch4, depth fetch, depth compare, plain." With fetch4, alpha is gathered only without the depth bit;
 -- a plain lookup of a volume or a cube takes three coordinates.
@@ -121,8 +120,8 @@ lookup_text DepthCompare lod projected i c =
 lookup_text (Plain three) lod projected i c = texel_line i (plain_text lod three projected i (coordinate_text i c))
 
 -- the stage before, as its lookup's place matters to the next: a bump stage displaces and scales
-unfoldable pub before_of : ℕ → Stage → Before
-before_of n s = cond (bump s) (Displacing n (textured s) (luminance s)) Ordinary
+unfoldable pub before_of : ℕ → Stage → Option BumpStage
+before_of i s = cond (bump s) (Some (record { stage = i; textured = textured s; luminance = luminance s })) None
 
 -- the line that declares a divided coordinate
 unfoldable pub divided_line : ℕ → Text
@@ -159,8 +158,8 @@ luminance_line tex i n =
     ∷ ("scaled" ≔ when tex (format "{l}.z * {light}.x + " (("l" ≔ texel_name n) ∷ ("light" ≔ bump_row (2 * n + 1)) ∷ []))) ∷ [])
 
 -- everything that the lookup of stage i writes
-unfoldable pub sample_text : Before → Lookup → Bool → Bool → ℕ → Text
-sample_text Ordinary f lod projected i = lookup_text f lod projected i Interpolated
-sample_text (Displacing n tex lum) f lod projected i =
-    pick tex (displacement_text projected i n ⊕ lookup_text f lod false i Displaced) (lookup_text f lod projected i Interpolated)
-    ⊕ when lum (luminance_line tex i n)
+unfoldable pub sample_text : Option BumpStage → Lookup → Bool → Bool → ℕ → Text
+sample_text None f lod projected i = lookup_text f lod projected i Interpolated
+sample_text (Some b) f lod projected i =
+    pick b.textured (displacement_text projected i b.stage ⊕ lookup_text f lod false i Displaced) (lookup_text f lod projected i Interpolated)
+    ⊕ when b.luminance (luminance_line b.textured i b.stage)

@@ -14,8 +14,7 @@ use Rattle.shader.specs.Lookups.{lookup_of, texture_type_of, type_text, texture_
 use Rattle.shader.specs.Output.{flat_shade, srgb_write, sample_mask, point_sprite, lod_bias, fogged, tested, output_text}
 use Rattle.values.specs.declared.Variant.{Variant}
 use Rattle.values.specs.declared.Entry.{Entry}
-use Rattle.shader.specs.declared.Before.{Before}
-use Rattle.shader.specs.declared.Before.TheVariants.{Ordinary}
+use Rattle.shader.specs.declared.BumpStage.{BumpStage}
 
 unfoldable pub varyings_text : Bool → Text
 varyings_text flat =
@@ -93,8 +92,8 @@ unfoldable pub stage_line : Bool → ℕ → Stage → Option Expressions → Te
 stage_line alive i s None = none
 stage_line alive i s (Some e) = when (lined alive s) (line_text i (textured s) (to_temp s) e.colour e.alpha)
 
--- the lookups and lines of these stages; i is the first one's number, and before what stands before it
-unfoldable pub stages_text : Variant → ℕ → Bool → Before → ℕ → List Stage → Text
+-- the lookups and lines of these stages; i is the first one's number, and before the bump stage before it, if that is one
+unfoldable pub stages_text : Variant → ℕ → Bool → Option BumpStage → ℕ → List Stage → Text
 stages_text v projected alive before i [] = none
 stages_text v projected alive before i (s ∷ r) =
     when (marked alive (s ∷ r)) (sample_text before (lookup_of v i) (lod_bias v) (bit projected i) i)
@@ -110,7 +109,7 @@ body_text k v ss =
     parameters_text v ss
     ⊕ sprite_text (point_sprite v)
     ⊕ locals_text (live ss)
-    ⊕ stages_text v k.projected (live ss) Ordinary 0 ss
+    ⊕ stages_text v k.projected (live ss) None 0 ss
     ⊕ output_text k.specular_add v
 
 -- the text of a key with the stages that take effect

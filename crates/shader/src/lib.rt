@@ -1,6 +1,8 @@
 //! What shapes a lookup, with the definition of the text, of what is answered and of the listed names, and what is proved of them: no code.
 #![tactic(auto)]
 
+use values::StageIndex;
+
 // A coordinate of a stage: as interpolated, divided by its w, displaced by the stage before, or divided for a depth comparison.
 #[derive(Clone, Copy)]
 pub enum Coordinate {
@@ -14,10 +16,10 @@ pub enum Coordinate {
 // coordinates or two.
 #[derive(Clone, Copy)]
 pub enum Lookup {
-    Fetch4(bool),
-    DepthFetch(bool),
+    Fetch4 { alpha: bool },
+    DepthFetch { red: bool },
     DepthCompare,
-    Plain(bool),
+    Plain { three: bool },
 }
 
 #[derive(Clone, Copy)]
@@ -28,9 +30,19 @@ pub enum TextureType {
     Flat,
 }
 
-// The stage before a lookup: an ordinary one, or a bump stage by its number, whether it has a texture, and whether it scales by luminance.
+// The lookup of a stage: how the texture is read, whether the level of detail is biased, and whether the coordinate is divided by its w.
 #[derive(Clone, Copy)]
-pub enum Before {
-    Ordinary,
-    Displacing(u8, bool, bool),
+pub struct Sampling {
+    pub stage: StageIndex,
+    pub lookup: Lookup,
+    pub lod: bool,
+    pub projected: bool,
+}
+
+// A bump stage, before the stage whose lookup it displaces if it has a texture, and scales if it has luminance.
+#[derive(Clone, Copy)]
+pub struct BumpStage {
+    pub stage: StageIndex,
+    pub textured: bool,
+    pub luminance: bool,
 }

@@ -1,6 +1,8 @@
 //! The values that the libraries hand to one another: keys, variants, entries, what emission reports, and why a call is refused.
 #![tactic(auto)]
 
+pub mod staged;
+
 ghost use Rattle.std.specs.Prelude.{◌≡◌, ◌<◌, ℕ};
 ghost use Rattle.values.specs.Refusals.{number_in, number_of};
 

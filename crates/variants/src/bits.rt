@@ -1,41 +1,59 @@
 //! The bits of masks and flags, and the tests of a variant's modes.
 ghost use Rattle.std.specs.Prelude.{◌≡◌};
 ghost use Rattle.combiners.specs.Codes.{bit};
-ghost use Rattle.shader.specs.Output.{fogged, tested};
+ghost use Rattle.shader.specs.Output.{flat_shade, srgb_write, sample_mask, point_sprite, lod_bias, fog_source_w, fogged, tested};
 
 use combiners::codes::{D3DCMP_ALWAYS, D3DFOG_NONE};
 use values::Variant;
-
-// The flags of a variant, by their bits.
-pub const FLAT_SHADE: u8 = 0;
-
-pub const SRGB_WRITE: u8 = 1;
-
-pub const SAMPLE_MASK: u8 = 2;
-
-pub const POINT_SPRITE: u8 = 3;
-
-pub const LOD_BIAS: u8 = 4;
-
-pub const FOG_SOURCE_W: u8 = 5;
-
-const MASK_BITS: u8 = 16;
 
 // Bit i of a mask. A mask has sixteen bits; those behind them are not set.
 pub fn bit(mask: u16, i: u8) -> bool
     ensures { result ≡ bit mask i }
 {
-    if i < MASK_BITS {
-        return (mask >> i) % 2 == 1;
-    }
-    false
+    (i as u32) < u16::BITS && (mask >> i) % 2 == 1
 }
 
 // A flag of a variant, by its bit.
-pub fn flag(v: Variant, i: u8) -> bool
+fn flag(v: Variant, i: u8) -> bool
     ensures { result ≡ bit v.flags i }
 {
     bit(v.flags as u16, i)
+}
+
+pub fn flat_shade(v: Variant) -> bool
+    ensures { result ≡ flat_shade v }
+{
+    flag(v, 0)
+}
+
+pub fn srgb_write(v: Variant) -> bool
+    ensures { result ≡ srgb_write v }
+{
+    flag(v, 1)
+}
+
+pub fn sample_mask(v: Variant) -> bool
+    ensures { result ≡ sample_mask v }
+{
+    flag(v, 2)
+}
+
+pub fn point_sprite(v: Variant) -> bool
+    ensures { result ≡ point_sprite v }
+{
+    flag(v, 3)
+}
+
+pub fn lod_bias(v: Variant) -> bool
+    ensures { result ≡ lod_bias v }
+{
+    flag(v, 4)
+}
+
+pub fn fog_source_w(v: Variant) -> bool
+    ensures { result ≡ fog_source_w v }
+{
+    flag(v, 5)
 }
 
 pub fn fogged(v: Variant) -> bool

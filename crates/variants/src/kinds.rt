@@ -7,37 +7,40 @@ use shader::{Lookup, TextureType};
 use values::Variant;
 
 // The first that applies: fetch4, depth fetch, depth compare, plain.
+#[tactic(auto, unfolding(shader::specs::Lookups::lookup_of))]
 pub fn lookup_of(v: Variant, i: u8) -> Lookup
     ensures { result ≡ lookup_of v i }
 {
     let depth = bit(v.depth_sampler, i);
     if bit(v.fetch4, i) {
-        let alpha = bit(v.fetch4_alpha, i);
-        return Lookup::Fetch4(!depth && alpha);
+        Lookup::Fetch4 {
+            alpha: !depth && bit(v.fetch4_alpha, i),
+        }
+    } else if bit(v.depth_fetch, i) {
+        Lookup::DepthFetch {
+            red: bit(v.raw_depth_red, i),
+        }
+    } else if depth {
+        Lookup::DepthCompare
+    } else {
+        Lookup::Plain {
+            three: bit(v.volume, i) || bit(v.cube, i),
+        }
     }
-    if bit(v.depth_fetch, i) {
-        return Lookup::DepthFetch(bit(v.raw_depth_red, i));
-    }
-    if depth {
-        return Lookup::DepthCompare;
-    }
-    let volume = bit(v.volume, i);
-    let cube = bit(v.cube, i);
-    Lookup::Plain(volume || cube)
 }
 
 // The first that applies: depth, volume, cube, flat.
+#[tactic(auto, unfolding(shader::specs::Lookups::texture_type_of))]
 pub fn texture_type_of(v: Variant, i: u8) -> TextureType
     ensures { result ≡ texture_type_of v i }
 {
     if bit(v.depth_sampler, i) {
-        return TextureType::Depth;
+        TextureType::Depth
+    } else if bit(v.volume, i) {
+        TextureType::Volume
+    } else if bit(v.cube, i) {
+        TextureType::Cube
+    } else {
+        TextureType::Flat
     }
-    if bit(v.volume, i) {
-        return TextureType::Volume;
-    }
-    if bit(v.cube, i) {
-        return TextureType::Cube;
-    }
-    TextureType::Flat
 }

@@ -1,4 +1,4 @@
--- Projected, the displaced coordinate is the divided one, declared in the line before; else the interpolated one.
+-- Projected, the displaced coordinate is the divided one, declared in the line before.
 use Rattle.text.proofs.Laws.{texts}
 use Rattle.shader.specs.Lookups.{displacement_text}
 use Rattle.bumps.proofs.put_displacement.Goals as goal
@@ -6,7 +6,3 @@ use Rattle.bumps.proofs.put_displacement.Goals as goal
 pub returns-then-projected : goal.returns-then-projected
 unfolding displacement_text
 returns-then-projected c = search texts
-
-pub returns-else-projected : goal.returns-else-projected
-unfolding displacement_text
-returns-else-projected c = search texts

@@ -4,4 +4,4 @@ use Rattle.bumps.proofs.Lines.{divided}
 use Rattle.bumps.proofs.put_divided_line.Goals as goal
 
 pub returns : goal.returns
-returns c = same (divided _) c.put_numbered.ensures.written
+returns c = same (divided _) c.put_staged.ensures.written

@@ -5,5 +5,5 @@ use Rattle.bumps.proofs.put_luminance_line.Goals as goal
 
 pub returns : goal.returns
 returns c =
-    same (lights c.args.tex c.args.i c.args.n)
-    (c.put_numbered-p.ensures.written ⨾ c.put_scaled-p.ensures ⨾ c.put_bump_row-p.ensures ⨾ c.put.ensures.written)
+    same (lights c.args.b.now.textured c.args.i c.args.b.now.stage)
+    (c.put_staged-p.ensures.written ⨾ c.put_scaled-p.ensures ⨾ c.put_luminance_row-p.ensures ⨾ c.put.ensures.written)

@@ -5,7 +5,7 @@ use Rattle.shader.specs.Lookups.{bump_row}
 use Rattle.bumps.proofs.Lines.{scales}
 use Rattle.bumps.proofs.put_scaled.Goals as goal
 
-pub returns-then-tex : goal.returns-then-tex
-returns-then-tex c =
-    pick_true c.if-tex.true
-    (same (scales c.args.n (bump_row (2 * c.args.n + 1))) (c.put_numbered-p.ensures.written ⨾ c.put_bump_row-p.ensures ⨾ c.put.ensures.written))
+pub returns-then-b : goal.returns-then-b
+returns-then-b c =
+    pick_true c.if-b.true
+    (same (scales c.args.b.now.stage (bump_row (2 * c.args.b.now.stage + 1))) (c.put_staged-p.ensures.written ⨾ c.put_luminance_row-p.ensures ⨾ c.put.ensures.written))

@@ -21,30 +21,30 @@ short k v e mask stages len =
 -- what was written aside is within the longest text, whether it fits the buffer or not
 pub slice_bounds-aside-end : goal.slice_bounds-aside-end
 slice_bounds-aside-end c =
-    let most : length (flat (whole_text c.args.k c.args.v c.args.e)) ≤ 6657 = short _ _ _ (search rules) (omega arith) c.requires.1 in
-    let aside = placed c.args.k c.args.v c.args.e c.put_whole-w.ensures.wrote most in
+    let most : length (flat (whole_text c.args.s.key c.args.v c.args.e)) ≤ 6657 = short _ _ _ (search rules) (omega arith) c.requires in
+    let aside = placed c.args.s.key c.args.v c.args.e c.put_whole-w.ensures.wrote most in
     omega (arith, aside.0, most, keeps c.put_whole-w.ensures.wrote)
 
 pub returns-then-takes_any : goal.returns-then-takes_any
 returns-then-takes_any c =
-    let most : length (flat (whole_text c.args.k c.args.v c.args.e)) ≤ 6657 = short _ _ _ (search rules) (omega arith) c.requires.1 in
+    let most : length (flat (whole_text c.args.s.key c.args.v c.args.e)) ≤ 6657 = short _ _ _ (search rules) (omega arith) c.requires in
     let fits = le_trans most c.if-takes_any.true in
-    let l = placed c.args.k c.args.v c.args.e c.put_whole.ensures.wrote fits in
+    let l = placed c.args.s.key c.args.v c.args.e c.put_whole.ensures.wrote fits in
     record { place = l.0; fits = λ f. l.1; over = λ o. absurd (omega (arith, fits, o)); lookups = c.put_whole.ensures.lookups_value }
 
 pub returns-then-fits : goal.returns-then-fits
 returns-then-fits c =
-    let text : List ℕ = flat (whole_text c.args.k c.args.v c.args.e) in
-    let most : length text ≤ 6657 = short _ _ _ (search rules) (omega arith) c.requires.1 in
-    let aside = placed c.args.k c.args.v c.args.e c.put_whole-w.ensures.wrote most in
+    let text : List ℕ = flat (whole_text c.args.s.key c.args.v c.args.e) in
+    let most : length text ≤ 6657 = short _ _ _ (search rules) (omega arith) c.requires in
+    let aside = placed c.args.s.key c.args.v c.args.e c.put_whole-w.ensures.wrote most in
     let fits : length text ≤ length c.args.out.now = omega (arith, aside.0, c.if-fits.true) in
     let l = copied text c.args.out.now _ _ aside.0 aside.1 fits c.put.ensures.written in
     record { place = aside.0; fits = λ f. l; over = λ o. absurd (omega (arith, fits, o)); lookups = c.put_whole-w.ensures.lookups_value }
 
 pub returns-else-fits : goal.returns-else-fits
 returns-else-fits c =
-    let text : List ℕ = flat (whole_text c.args.k c.args.v c.args.e) in
-    let most : length text ≤ 6657 = short _ _ _ (search rules) (omega arith) c.requires.1 in
-    let aside = placed c.args.k c.args.v c.args.e c.put_whole-w.ensures.wrote most in
+    let text : List ℕ = flat (whole_text c.args.s.key c.args.v c.args.e) in
+    let most : length text ≤ 6657 = short _ _ _ (search rules) (omega arith) c.requires in
+    let aside = placed c.args.s.key c.args.v c.args.e c.put_whole-w.ensures.wrote most in
     let over : length c.args.out.now < length text = omega (arith, aside.0, c.if-fits.false) in
     record { place = aside.0; fits = λ f. absurd (omega (arith, over, f)); over = λ o. refl; lookups = c.put_whole-w.ensures.lookups_value }

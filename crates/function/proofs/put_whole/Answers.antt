@@ -9,5 +9,5 @@ unfolding whole_text body_text
 returns-clause-wrote c =
     let parts =
     c.put_front-p.ensures ⨾ c.put-p.ensures.written ⨾ c.put_parameters-p.ensures ⨾ c.put_sprite-p.ensures ⨾ c.put_locals-p.ensures
-    ⨾ c.put_stages-stages.ensures.wrote ⨾ c.put_output-p.ensures in
-    rw (← survey_live c.args.k.stages c.args.u c.requires.0, ← c.flag.ensures) parts
+    ⨾ c.put_stages-stages.ensures.wrote ⨾ c.put_output.ensures in
+    rw (← survey_live c.args.s.now.key.stages c.args.s.now.survey c.args.s.now.is, ← c.point_sprite.ensures) parts

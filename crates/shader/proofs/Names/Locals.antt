@@ -4,6 +4,7 @@ use mathlib.Core.Path.{◌≡◌, sym, subst}
 use mathlib.Core.List.{List, [], ◌∷◌, ◌++◌}
 use mathlib.Core.Bool.{Bool, true, false, not, ◌&&◌, ◌||◌, cond}
 use lib.Dec.{T, eqb}
+use Rattle.std.specs.Prelude.{Option, Some}
 use Rattle.text.specs.Text.{flat}
 use Rattle.combiners.specs.Codes.{bit, disable}
 use Rattle.cascade.specs.Keys.{textured, to_temp, bump}
@@ -15,8 +16,7 @@ use Rattle.values.specs.Listed.{Name}
 use Rattle.shader.specs.Lookups.{lookup_of, before_of, sample_text}
 use Rattle.shader.specs.Output.{lod_bias}
 use Rattle.shader.specs.Whole.{stage_line, stages_text}
-use Rattle.shader.specs.declared.Before.{Before}
-use Rattle.shader.specs.declared.Before.TheVariants.{Displacing}
+use Rattle.shader.specs.declared.BumpStage.{BumpStage}
 use Rattle.shader.proofs.Names.Truth.{true_of, and_fst, and_snd, either, cond_cases}
 use Rattle.shader.proofs.Names.Words.{the}
 use Rattle.shader.proofs.Names.Arguments.{texel}
@@ -34,22 +34,22 @@ lined_alive true s t = go (to_temp s)
     go false = tt
 lined_alive false s t = absurd t
 
-before_bump : (i : ℕ) (s : Stage) → T (bump s) → before_of i s ≡ Displacing i (textured s) (luminance s)
+before_bump : (i : ℕ) (s : Stage) → T (bump s) → before_of i s ≡ Some (record { stage = i; textured = textured s; luminance = luminance s })
 unfolding before_of
 before_bump i s t = rw (true_of (bump s) t)
 
 module _ (v : Variant) (projected : ℕ) (alive : Bool) where
-  abbrev S : Before → ℕ → List ℕ
+  abbrev S : Option BumpStage → ℕ → List ℕ
   S before i = flat (sample_text before (lookup_of v i) (lod_bias v) (bit projected i) i)
 
   abbrev L : ℕ → Stage → List ℕ
   L i s = flat (stage_line alive i s (decode s))
 
-  abbrev R : Before → ℕ → List Stage → List ℕ
+  abbrev R : Option BumpStage → ℕ → List Stage → List ℕ
   R before i ss = flat (stages_text v projected alive before i ss)
 
   -- what the lookup of the first stage uses, where it is marked
-  first_mentions : {n : Name} (before : Before) (i : ℕ) (ss : List Stage) → T (marked alive ss) → Mentions n (S before i)
+  first_mentions : {n : Name} (before : Option BumpStage) (i : ℕ) (ss : List Stage) → T (marked alive ss) → Mentions n (S before i)
       → Mentions n (R before i ss)
   unfolding stages_text marked
   first_mentions before i [] t m = absurd t
@@ -58,16 +58,16 @@ module _ (v : Variant) (projected : ℕ) (alive : Bool) where
       subst (λ (b : Bool). Mentions n (cond b (S before i) [] ++ (L i s ++ R (before_of i s) (suc i) r))) (sym e) (mentions_left _ m)
 
   -- what stands behind the first stage's lookup
-  behind_mentions : {n : Name} (before : Before) (i : ℕ) (s : Stage) (r : List Stage) → Mentions n (L i s ++ R (before_of i s) (suc i) r)
+  behind_mentions : {n : Name} (before : Option BumpStage) (i : ℕ) (s : Stage) (r : List Stage) → Mentions n (L i s ++ R (before_of i s) (suc i) r)
       → Mentions n (R before i (s ∷ r))
   unfolding stages_text
   behind_mentions before i s r m = mentions_right (cond (marked alive (s ∷ r)) (S before i) []) m
 
-  rest_mentions : {n : Name} (before : Before) (i : ℕ) (s : Stage) (r : List Stage) → Mentions n (R (before_of i s) (suc i) r)
+  rest_mentions : {n : Name} (before : Option BumpStage) (i : ℕ) (s : Stage) (r : List Stage) → Mentions n (R (before_of i s) (suc i) r)
       → Mentions n (R before i (s ∷ r))
   rest_mentions before i s r m = behind_mentions before i s r (mentions_right (L i s) m)
 
-  pub stages_temp : T alive → (ss : List Stage) (before : Before) (i : ℕ) → T (live ss) → Mentions (the "temp") (R before i ss)
+  pub stages_temp : T alive → (ss : List Stage) (before : Option BumpStage) (i : ℕ) → T (live ss) → Mentions (the "temp") (R before i ss)
   unfolding live
   stages_temp a [] before i t = absurd t
   stages_temp a (s ∷ r) before i t =
@@ -79,10 +79,10 @@ module _ (v : Variant) (projected : ℕ) (alive : Bool) where
 
   -- behind a bump stage, where the next is marked: what its lookup uses at the displaced coordinate
   bumped : {n : Name} (i : ℕ) (s : Stage) (r : List Stage) → T (bump s) → T (marked alive r)
-      → Mentions n (S (Displacing i (textured s) (luminance s)) (suc i)) → Mentions n (R (before_of i s) (suc i) r)
+      → Mentions n (S (Some (record { stage = i; textured = textured s; luminance = luminance s })) (suc i)) → Mentions n (R (before_of i s) (suc i) r)
   bumped i s r b m x = rw (before_bump i s b) (first_mentions _ (suc i) r m x)
 
-  pub stages_env : (ss : List Stage) (before : Before) (i : ℕ) → T (reads_bump_env alive ss) → Mentions (the "bump_env") (R before i ss)
+  pub stages_env : (ss : List Stage) (before : Option BumpStage) (i : ℕ) → T (reads_bump_env alive ss) → Mentions (the "bump_env") (R before i ss)
   unfolding reads_bump_env
   stages_env [] before i t = absurd t
   stages_env (s ∷ r) before i t =

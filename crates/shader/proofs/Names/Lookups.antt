@@ -4,6 +4,7 @@ use mathlib.Core.List.{[], ◌∷◌}
 use mathlib.Core.Bool.{Bool, true, false, ◌||◌}
 use native.Mathlib.Omega.{arith}
 use lib.Dec.{T}
+use Rattle.std.specs.Prelude.{Option, Some, None}
 use Rattle.text.specs.Text.{Text, ◌⊕◌, lit, flat}
 use Rattle.text.specs.Format.{format, ◌≔◌}
 use Rattle.combiners.specs.Arguments.{texel_name}
@@ -12,8 +13,7 @@ use Rattle.shader.specs.declared.Coordinate.{Coordinate}
 use Rattle.shader.specs.declared.Coordinate.TheVariants.{Interpolated, Divided, Displaced, Projected}
 use Rattle.shader.specs.declared.Lookup.{Lookup}
 use Rattle.shader.specs.declared.Lookup.TheVariants.{Fetch4, DepthFetch, DepthCompare, Plain}
-use Rattle.shader.specs.declared.Before.{Before}
-use Rattle.shader.specs.declared.Before.TheVariants.{Ordinary, Displacing}
+use Rattle.shader.specs.declared.BumpStage.{BumpStage}
 use Rattle.values.specs.Listed.{Name}
 use Rattle.shader.proofs.Names.Truth.{cond_cases, inl, inr}
 use Rattle.shader.proofs.Names.Check.{Aim, Known, declaring, add_self}
@@ -27,9 +27,9 @@ use Rattle.shader.proofs.Names.Coordinates.{lookup_mentions, compared_mentions, 
 use Rattle.shader.proofs.Names.Samples.{Bound, bound_more, bump_frag, coordinate_frag, quotient_frag, gather_frag, fetch_frag, compare_frag, plain_frag}
 
 -- what the stage before is to a lookup
-abbrev pub Behind : Known → Before → Type 0
-Behind K Ordinary = Unit {0}
-Behind K (Displacing n tex lum) = (n < 8) × (T (tex || lum) → T (K.has (the "bump_env"))) × (T tex → T (K.has (texel n)))
+abbrev pub Behind : Known → Option BumpStage → Type 0
+Behind K None = Unit {0}
+Behind K (Some b) = (b.stage < 8) × (T (b.textured || b.luminance) → T (K.has (the "bump_env"))) × (T b.textured → T (K.has (texel b.stage)))
 
 -- the lines of a lookup
 module _ (sprite : Bool) (rows total : ℕ) (named : Name → Bool) where
@@ -130,12 +130,15 @@ module _ (sprite : Bool) (rows total : ℕ) (named : Name → Bool) where
           (λ v. done)
           ⨾ format_reads "{light}.y);\n" (bump_row (2 * n + 1) ⊕ lit ".y);\n") tt (x, tt))
 
-    pub sample_reads : (before : Before) (f : Lookup) (K : Known) (lod projected : Bool) → K.next ≤ 40 + 4 * i → Bound K lod i
+    pub sample_reads : (before : Option BumpStage) (f : Lookup) (K : Known) (lod projected : Bool) → K.next ≤ 40 + 4 * i → Bound K lod i
         → T (K.has (the "in")) → Behind K before → T (named (texel i)) → Inside named (flat (sample_text before f lod projected i))
         → Reads A K [] (flat (sample_text before f lod projected i)) (sampled K) []
     unfolding sample_text
-    sample_reads Ordinary f K lod projected p b h q w v = lookup_reads f K lod projected Interpolated (omega arith) b h w v
-    sample_reads (Displacing n tex lum) f K lod projected p b h q w v =
+    sample_reads None f K lod projected p b h q w v = lookup_reads f K lod projected Interpolated (omega arith) b h w v
+    sample_reads (Some d) f K lod projected p b h q w v =
+        let n = d.stage in
+        let tex = d.textured in
+        let lum = d.luminance in
         let moved : Mentions (coordinate_of i Displaced) (flat (lookup_text f lod false i Displaced)) =
         lookup_mentions f lod false i Displaced (name_finds {t = coordinate_text i Displaced} (displaced_word i b.small)) in
         cond_cases tex _ _ (λ x. Inside named x → Reads A K [] x (sampled K) [])

@@ -6,6 +6,7 @@ use mathlib.Core.Bool.{Bool, true, false, not, ◌&&◌, ◌||◌, cond}
 use native.Mathlib.Omega.{arith}
 use lib.Dec.{T, eqb}
 use lib.ListN.{length}
+use Rattle.std.specs.Prelude.{Option}
 use Rattle.text.specs.Text.{flat}
 use Rattle.combiners.specs.Codes.{bit, selector, blend_factor_alpha, texture, factor, temp, constant}
 use Rattle.combiners.specs.Arguments.{source_of, arg_of, arg_text}
@@ -22,7 +23,7 @@ use Rattle.shader.specs.Lookups.{lookup_of, before_of, sample_text}
 use Rattle.shader.specs.Output.{lod_bias}
 use Rattle.shader.specs.Whole.{stage_line, stages_text}
 use Rattle.values.specs.declared.Variant.{Variant}
-use Rattle.shader.specs.declared.Before.{Before}
+use Rattle.shader.specs.declared.BumpStage.{BumpStage}
 use Rattle.values.specs.Listed.{Name}
 use Rattle.shader.proofs.Names.Truth.{true_of, and_snd, both, inl, inr, cond_cases}
 use Rattle.shader.proofs.Names.Check.{Aim, Known, declaring, add_self}
@@ -137,7 +138,7 @@ module _ (sprite : Bool) (rows total : ℕ) (named : Name → Bool) (v : Variant
   A = aim sprite rows total named
 
   -- what is known before the stages ss, the first of them stage i
-  pub record Env (K : Known) (before : Before) (i : ℕ) (ss : List Stage) : Type 0 where
+  pub record Env (K : Known) (before : Option BumpStage) (i : ℕ) (ss : List Stage) : Type 0 where
     pub small : i + length ss ≤ 8
     pub free : K.next ≤ 40 + 4 * i
     pub base : Base K
@@ -154,7 +155,7 @@ module _ (sprite : Bool) (rows total : ℕ) (named : Name → Bool) (v : Variant
     pub inside : Inside named (flat (stages_text v projected alive before i ss))
 
   module _ (i : ℕ) (s : Stage) (r : List Stage) where
-    line_reads : (K K₀ : Known) (before : Before) → Has K₀ K → Env K₀ before i (s ∷ r) → (T (marked alive (s ∷ r)) → T (K.has (texel i)))
+    line_reads : (K K₀ : Known) (before : Option BumpStage) → Has K₀ K → Env K₀ before i (s ∷ r) → (T (marked alive (s ∷ r)) → T (K.has (texel i)))
         → Reads A K [] (flat (stage_line alive i s (decode s))) K []
     unfolding stage_line decode reads_texel reads_temp
     line_reads K K₀ before u e m =
@@ -190,7 +191,7 @@ module _ (sprite : Bool) (rows total : ℕ) (named : Name → Bool) (v : Variant
         (λ t. done)
 
     -- what is known behind stage i, its lookup marked or not
-    next_env : (K K₁ : Known) (before : Before) → Env K before i (s ∷ r) → Has K K₁ → K₁.next ≤ 44 + 4 * i
+    next_env : (K K₁ : Known) (before : Option BumpStage) → Env K before i (s ∷ r) → Has K K₁ → K₁.next ≤ 44 + 4 * i
         → (T (marked alive (s ∷ r)) → T (K₁.has (texel i))) → K₁.seen + lookups_of alive r ≡ total
         → Inside named (flat (stages_text v projected alive (before_of i s) (suc i) r))
         → Env K₁ (before_of i s) (suc i) r
@@ -215,7 +216,7 @@ module _ (sprite : Bool) (rows total : ℕ) (named : Name → Bool) (v : Variant
           inside = w;
         }
 
-  pub stages_read : (ss : List Stage) (before : Before) (i : ℕ) (K : Known) → Env K before i ss
+  pub stages_read : (ss : List Stage) (before : Option BumpStage) (i : ℕ) (K : Known) → Env K before i ss
       → Reads A K [] (flat (stages_text v projected alive before i ss)) (later 72 total K) []
   unfolding stages_text lookups_of
   stages_read [] before i K e =

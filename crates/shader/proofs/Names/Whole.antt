@@ -6,6 +6,7 @@ use mathlib.Core.Bool.{Bool}
 use native.Mathlib.Omega.{arith}
 use lib.Dec.{T, lit≤}
 use lib.ListN.{length}
+use Rattle.std.specs.Prelude.{None}
 use Rattle.text.specs.Text.{bytes, flat}
 use Rattle.cascade.specs.Keys.{rows_of}
 use Rattle.cascade.specs.Effective.{effective_stages, active_stages, effective}
@@ -19,7 +20,6 @@ use Rattle.values.specs.Entries.{entry_good}
 use Rattle.shader.specs.Results.{text_of, emitted_of}
 use Rattle.values.specs.declared.Variant.{Variant}
 use Rattle.values.specs.declared.Entry.{Entry}
-use Rattle.shader.specs.declared.Before.TheVariants.{Ordinary}
 use Rattle.values.specs.Listed.{Name}
 use Rattle.shader.specs.Names.{tokens, Occurrence, occurrences}
 use Rattle.shader.specs.Idle.{watched, used, NoIdle}
@@ -66,7 +66,7 @@ module _ (k : Key) (v : Variant) (ss : List Stage) (l : length ss ≤ 8) (enable
       (λ t. literal (λ r k. ((lit≤ tt, w t), k)))
 
   -- what the stages use, the text uses
-  stages_inside : {n : Name} → Mentions n (flat (stages_text v k.projected alive Ordinary 0 ss)) → Mentions n (flat (body_text k v ss))
+  stages_inside : {n : Name} → Mentions n (flat (stages_text v k.projected alive None 0 ss)) → Mentions n (flat (body_text k v ss))
   unfolding body_text
   stages_inside m =
       mentions_right (flat (parameters_text v ss))
@@ -76,15 +76,15 @@ module _ (k : Key) (v : Variant) (ss : List Stage) (l : length ss ≤ 8) (enable
   body_holds : Inside named (flat (body_text k v ss)) → Holds A nothing (scan [] (tokens (flat (body_text k v ss))))
   unfolding body_text
   body_holds w =
-      let inside : Inside named (flat (stages_text v k.projected alive Ordinary 0 ss)) = λ n m. w n (stages_inside m) in
-      let g = parameters_pass v ss rows total named l (λ t. inside (the "bump_env") (stages_env v k.projected alive ss Ordinary 0 t)) in
+      let inside : Inside named (flat (stages_text v k.projected alive None 0 ss)) = λ n m. w n (stages_inside m) in
+      let g = parameters_pass v ss rows total named l (λ t. inside (the "bump_env") (stages_env v k.projected alive ss None 0 t)) in
       let given = g.gives in
       let K₁ : Known = within rows total named g.known in
       let K₂ : Known = declaring A (the "current") K₁ in
       let K₃ : Known = optional A alive (the "temp") K₂ in
       let more : Has g.known K₃ =
       λ n t. optional_more A alive (the "temp") K₂ n (has_more A (the "current") K₁ n (within_more rows total named g.known n t)) in
-      let env : Env sprite rows total named v k.projected alive K₃ Ordinary 0 ss =
+      let env : Env sprite rows total named v k.projected alive K₃ None 0 ss =
       record {
         small = omega arith;
         free = lit≤ tt;
@@ -104,8 +104,8 @@ module _ (k : Key) (v : Variant) (ss : List Stage) (l : length ss ≤ 8) (enable
       let whole =
       g.reads
       ⨾ sprite_reads rows total named sprite g.known (omega (arith, g.lower)) given.is_stage given.is_point given.is_in
-      ⨾ locals_read K₁ (lit≤ tt) tt (λ t. inside (the "temp") (stages_temp v k.projected alive t ss Ordinary 0 t))
-      ⨾ stages_read sprite rows total named v k.projected alive ss Ordinary 0 K₃ env
+      ⨾ locals_read K₁ (lit≤ tt) tt (λ t. inside (the "temp") (stages_temp v k.projected alive t ss None 0 t))
+      ⨾ stages_read sprite rows total named v k.projected alive ss None 0 K₃ env
       ⨾ output_reads sprite rows total named k.specular_add v (later 72 total K₃) (lit≤ tt) tt tt
       (λ t. more (the "alpha_ref") (given.is_alpha t)) (λ t. more (the "fog_data") (given.is_fog t)) in
       rw append-nil at (whole.on [] refl)

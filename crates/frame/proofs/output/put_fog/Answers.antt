@@ -11,6 +11,6 @@ returns-then-v-eq-D3DFOG_NONE c = pick_true (eq-eqb _ _ c.if-v-eq-D3DFOG_NONE.tr
 pub returns-else-v-eq-D3DFOG_NONE : goal.returns-else-v-eq-D3DFOG_NONE
 unfolding fog_text
 returns-else-v-eq-D3DFOG_NONE c =
-    rw (← c.flag-w.ensures)
+    rw (← c.fog_source_w.ensures)
     (pick_false (ne_eqb _ _ c.if-v-eq-D3DFOG_NONE.false)
     (c.put_fog_depth-p.ensures ⨾ c.put_fog_factor-p.ensures ⨾ c.put.ensures.written))

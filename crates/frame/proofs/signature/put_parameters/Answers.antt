@@ -4,16 +4,13 @@ use Rattle.text.proofs.Laws.{◌⨾◌, regroup}
 use Rattle.cascade.specs.Survey.{survey_of}
 use Rattle.cascade.specs.declared.Survey.{Survey}
 use Rattle.shader.specs.Whole.{parameters_text}
-use Rattle.frame.proofs.Samplers.{survey_count}
 use Rattle.frame.proofs.signature.put_parameters.Goals as goal
-
-pub put_samplers-p-requires : goal.put_samplers-p-requires
-put_samplers-p-requires c = survey_count _ _ c.requires
 
 pub returns : goal.returns
 unfolding parameters_text survey_of
 returns c =
-    let bumps = ap (λ (s : Survey). s.bump_env) c.requires in
-    rw (← bumps, ← c.flag.ensures, ← c.tested.ensures, ← c.fogged.ensures, ← c.flag-2.ensures)
+    let bumps = ap (λ (s : Survey). s.bump_env) c.args.s.now.is in
+    let samplers = rw c.active.ensures.stages at c.put_samplers-p.ensures in
+    rw (← bumps, ← c.point_sprite.ensures, ← c.tested.ensures, ← c.fogged.ensures, ← c.lod_bias.ensures)
     (regroup (c.put_stage_in-p.ensures ⨾ c.put_when-p.ensures.written ⨾ c.put_when-p-2.ensures.written ⨾ c.put_when-p-3.ensures.written
-    ⨾ c.put_when-p-4.ensures.written ⨾ c.put_samplers-p.ensures ⨾ c.put.ensures.written))
+    ⨾ c.put_when-p-4.ensures.written ⨾ samplers ⨾ c.put.ensures.written))

@@ -6,4 +6,4 @@ use Rattle.frame.proofs.signature.put_sampler.Goals as goal
 pub returns-then-there : goal.returns-then-there
 returns-then-there c =
     pick_true c.if-there.true
-    (same (paired c.args.v c.args.i _ c.texture_type_of.ensures) (c.put_texture-p.ensures ⨾ c.put_numbered.ensures.written))
+    (same (paired c.args.v c.args.i _ (rw c.number.ensures.number at c.texture_type_of.ensures)) (c.put_texture-p.ensures ⨾ c.put_staged.ensures.written))

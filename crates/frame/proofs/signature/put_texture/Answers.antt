@@ -4,13 +4,13 @@ use Rattle.text.proofs.Laws.{same}
 use Rattle.frame.proofs.signature.put_texture.Goals as goal
 
 pub returns-in-Depth : goal.returns-in-Depth
-returns-in-Depth c = rw c.in-Depth.is (same refl c.put_numbered.ensures.written)
+returns-in-Depth c = rw c.in-Depth.is (same refl c.put_staged.ensures.written)
 
 pub returns-in-Volume : goal.returns-in-Volume
-returns-in-Volume c = rw c.in-Volume.is (same refl c.put_numbered-in-Volume.ensures.written)
+returns-in-Volume c = rw c.in-Volume.is (same refl c.put_staged-in-Volume.ensures.written)
 
 pub returns-in-Cube : goal.returns-in-Cube
-returns-in-Cube c = rw c.in-Cube.is (same refl c.put_numbered-in-Cube.ensures.written)
+returns-in-Cube c = rw c.in-Cube.is (same refl c.put_staged-in-Cube.ensures.written)
 
 pub returns-in-Flat : goal.returns-in-Flat
-returns-in-Flat c = rw c.in-Flat.is (same refl c.put_numbered-in-Flat.ensures.written)
+returns-in-Flat c = rw c.in-Flat.is (same refl c.put_staged-in-Flat.ensures.written)

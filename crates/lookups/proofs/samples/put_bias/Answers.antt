@@ -4,4 +4,4 @@ use Rattle.lookups.proofs.Lines.{biased}
 use Rattle.lookups.proofs.samples.put_bias.Goals as goal
 
 pub returns-then-lod : goal.returns-then-lod
-returns-then-lod c = pick_true c.if-lod.true (same (biased _) c.put_numbered.ensures.written)
+returns-then-lod c = pick_true c.if-lod.true (same (biased _) c.put_staged.ensures.written)

@@ -6,6 +6,6 @@ use Rattle.lookups.proofs.samples.put_compare_line.Goals as goal
 
 pub returns : goal.returns
 returns c =
-    same (compared c.args.lod c.args.i (coordinate_text c.args.i c.args.c))
-    (c.put_numbered-p.ensures.written ⨾ c.put_coordinate-p.ensures ⨾ c.put-p.ensures.written ⨾ c.put_coordinate-p-2.ensures
+    same (compared c.args.s.lod c.args.s.stage (coordinate_text c.args.s.stage c.args.c))
+    (c.put_staged-p.ensures.written ⨾ c.put_coordinate-p.ensures ⨾ c.put-p.ensures.written ⨾ c.put_coordinate-p-2.ensures
     ⨾ c.put-p-2.ensures.written ⨾ c.put_level-p.ensures ⨾ c.put.ensures.written)

@@ -6,6 +6,6 @@ use Rattle.lookups.proofs.samples.put_gather_line.Goals as goal
 
 pub returns : goal.returns
 returns c =
-    same (gathered c.args.alpha c.args.projected c.args.i (coordinate_text c.args.i c.args.c))
-    (c.put_numbered-p.ensures.written ⨾ c.put_uv-p.ensures ⨾ c.put_numbered-p-2.ensures.written ⨾ c.put_when-p.ensures.written
+    same (gathered c.args.alpha c.args.s.projected c.args.s.stage (coordinate_text c.args.s.stage c.args.c))
+    (c.put_staged-p.ensures.written ⨾ c.put_uv-p.ensures ⨾ c.put_staged-p-2.ensures.written ⨾ c.put_when-p.ensures.written
     ⨾ c.put.ensures.written)

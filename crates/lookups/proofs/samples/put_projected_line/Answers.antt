@@ -7,4 +7,4 @@ use Rattle.lookups.proofs.samples.put_projected_line.Goals as goal
 pub returns : goal.returns
 returns c =
     same (projects c.args.i (coordinate_text c.args.i c.args.c))
-    (c.put_numbered-p.ensures.written ⨾ c.put_tested_quotient-p.ensures ⨾ c.put.ensures.written)
+    (c.put_staged-p.ensures.written ⨾ c.put_tested_quotient-p.ensures ⨾ c.put.ensures.written)
