@@ -1,17 +1,17 @@
 //! The lookups and lines of the active stages.
-ghost use Rattle.std.specs.Prelude.{◌<◌, suc, ◌≡◌, cond, None};
+ghost use Rattle.std.specs.Prelude.{◌<◌, suc, ◌≡◌, cond, None, Some};
 ghost use Rattle.text.specs.Text.{when};
 ghost use Rattle.text.specs.Buffer.{Wrote};
 ghost use Rattle.combiners.specs.Codes.{bit};
 ghost use Rattle.cascade.specs.Keys.{active};
 ghost use Rattle.cascade.specs.Reading.{lookups_of};
-ghost use Rattle.cascade.specs.Stages.{decode};
 ghost use Rattle.shader.specs.Lookups.{lookup_of, before_of, sample_text};
 ghost use Rattle.shader.specs.Output.{lod_bias};
 ghost use Rattle.shader.specs.Whole.{stage_line, stages_text};
 
 use crate::Place;
 use bumps::put_sample;
+use cascade::Expressions;
 use cascade::decode::decode;
 use cascade::keys::{is_bump, textured, to_temp};
 use cascade::reading::{is_lined, is_luminance};
@@ -73,15 +73,22 @@ fn put_marked(
     from
 }
 
-// The line of stage i, where it has one: a bump stage has none.
+// The line of stage i, where it has one.
 #[tactic(auto, unfolding(shader::specs::Whole::stage_line))]
-fn put_stage_line(out: &mut [u8], at: usize, alive: bool, s: Stage, i: StageIndex) -> usize
-    ensures { Wrote out.old at out.new result (stage_line alive i s (decode s)) }
+fn put_stage_line(
+    out: &mut [u8],
+    at: usize,
+    alive: bool,
+    s: Stage,
+    e: Expressions,
+    i: StageIndex,
+) -> usize
+    ensures { Wrote out.old at out.new result (stage_line alive i s (Some e)) }
 {
-    match decode(s) {
-        Some(e) if is_lined(alive, s) => put_line(out, at, e, i, textured(s), to_temp(s)),
-        _ => at,
+    if is_lined(alive, s) {
+        return put_line(out, at, e, i, textured(s), to_temp(s));
     }
+    at
 }
 
 pub(crate) fn put_stages(out: &mut [u8], at: usize, s: &Surveyed, v: Variant) -> Place
@@ -96,9 +103,13 @@ pub(crate) fn put_stages(out: &mut [u8], at: usize, s: &Surveyed, v: Variant) ->
     for (i, stage) in s.active().iter().enumerate() {
         let n = StageIndex::new(i as u8);
         place = put_marked(out, place, marks % 2 == 1, before, v, s.key.projected, n);
-        place.at = put_stage_line(out, place.at, alive, *stage, n);
         before = before_of(n, *stage);
         marks /= 2;
+        // A bump stage has no expressions, and so no line.
+        let Some(e) = decode(*stage) else {
+            continue;
+        };
+        place.at = put_stage_line(out, place.at, alive, *stage, e, n);
     }
     place
 }
