@@ -1,14 +1,14 @@
 -- The loop over the active stages: what is still to be written, written, makes the whole.
 use Prim.Native.Nat.{ℕ, suc, ◌+◌, ◌*◌, ◌/◌, ◌%◌, ◌<◌, ◌≤◌}
 use mathlib.Core.Bool.{Bool, true, false, cond}
-use mathlib.Core.Path.{◌≡◌, ◌∙◌}
+use mathlib.Core.Path.{◌≡◌, refl, sym, ◌∙◌}
 use mathlib.Core.List.{List, ◌∷◌}
 use native.Mathlib.Omega.{arith}
 use native.Mathlib.Numerals.{add-one}
 use lib.Dec.{eqb}
 use lib.ListN.{length, drop, get_or, drop_of_length-le}
 use lib.Seq.{drop-cons}
-use Rattle.std.specs.Prelude.{Option, None}
+use Rattle.std.specs.Prelude.{Option, None, Some}
 use Rattle.text.specs.Text.{when}
 use Rattle.text.specs.Buffer.{Wrote}
 use Rattle.text.proofs.Laws.{◌⨾◌, nothing}
@@ -17,6 +17,7 @@ use Rattle.cascade.specs.Keys.{active}
 use Rattle.cascade.specs.Stages.{decode}
 use Rattle.cascade.specs.Reading.{live, marked, lookups_of}
 use Rattle.cascade.specs.Survey.{marks_of, survey_of}
+use Rattle.cascade.specs.declared.Expressions.{Expressions}
 use Rattle.values.specs.declared.Stage.{Stage}
 use Rattle.cascade.specs.declared.Survey.{Survey}
 use Rattle.shader.specs.Lookups.{lookup_of, before_of, sample_text}
@@ -100,3 +101,13 @@ survey_marks l u e = rw e
 pub survey_live : (l : List Stage) (u : Survey) → u ≡ survey_of l → u.live ≡ live (active l)
 unfolding survey_of
 survey_live l u e = rw e
+
+-- the line of a decoded stage: none of a bump stage
+pub no_line : {out : List ℕ} {p : ℕ} (alive : Bool) (i : ℕ) (s : Stage) {d : Option Expressions} → d ≡ decode s → d ≡ None
+    → Wrote out p out p (stage_line alive i s (decode s))
+unfolding stage_line
+no_line {out = out} {p = p} alive i s e f = rw (sym e ∙ f) (nothing out p)
+
+pub a_line : {out out' : List ℕ} {p p' : ℕ} (alive : Bool) (i : ℕ) (s : Stage) {d : Option Expressions} {x : Expressions} → d ≡ decode s → d ≡ Some x
+    → Wrote out p out' p' (stage_line alive i s (Some x)) → Wrote out p out' p' (stage_line alive i s (decode s))
+a_line alive i s e f w = rw (sym e ∙ f) w

@@ -1,6 +1,6 @@
--- A turn writes one stage's lookup and line, and counts the lookup.
+-- A turn writes one stage's lookup and line, and counts the lookup; a bump stage has no line.
 use Rattle.std.proofs.Common.{arith}
-use Rattle.function.proofs.Loops.{stages_start, stages_turn, stages_end, survey_marks}
+use Rattle.function.proofs.Loops.{stages_start, stages_turn, stages_end, survey_marks, no_line, a_line}
 use Rattle.function.proofs.stages.put_stages.Goals as goal
 
 pub loop-i-init : goal.loop-i-init
@@ -11,10 +11,19 @@ loop-i-init c =
 pub put_marked-place-requires : goal.put_marked-place-requires
 put_marked-place-requires c = omega (arith, c.loop-i.invariant.few)
 
+-- a bump stage
+pub loop-i-preserved-in_default : goal.loop-i-preserved-in_default
+loop-i-preserved-in_default c =
+    let looked = rw c.new-n.ensures at c.put_marked-place.ensures.wrote in
+    let lined = no_line c.args.s.now.survey.live c.loop-i.i _ c.decode.ensures c.in_default.is in
+    rw (c.before_of-before.ensures, c.new-n.ensures)
+    (stages_turn _ _ _ _ _ _ c.loop-i.i _ c.loop-i-test.true c.loop-i.invariant looked lined c.put_marked-place.ensures.lookups_value)
+
+-- another
 pub loop-i-preserved : goal.loop-i-preserved
 loop-i-preserved c =
     let looked = rw c.new-n.ensures at c.put_marked-place.ensures.wrote in
-    let lined = rw c.new-n.ensures at c.put_stage_line.ensures in
+    let lined = a_line c.args.s.now.survey.live c.loop-i.i _ c.decode.ensures c.in-Some.is (rw c.new-n.ensures at c.put_stage_line.ensures) in
     rw (c.before_of-before.ensures, c.new-n.ensures)
     (stages_turn _ _ _ _ _ _ c.loop-i.i _ c.loop-i-test.true c.loop-i.invariant looked lined c.put_marked-place.ensures.lookups_value)
 
