@@ -77,14 +77,6 @@ key_body k = of_either (λ (wide : Bool) (r : Record). body_bytes r ≡ key_byte
 
 -- Lengths.
 
-pub body_short : (k : Kind) → body_length k ≤ 74
-body_short kind.Key = omega arith
-body_short kind.Variant = omega arith
-body_short kind.Entry = omega arith
-body_short kind.Emit = omega arith
-body_short kind.State = omega arith
-body_short kind.WideKey = omega arith
-
 -- the stages and the two bytes behind them
 pub key-length : (wide : Bool) → body_length (key_kind wide) ≡ specular_at wide + 2
 key-length true = refl

@@ -1,12 +1,24 @@
 //! A state write done to the body of a key as it lies: the stage that it names changes, and no other byte.
-ghost use Rattle.std.specs.Prelude.{◌+◌, ◌≤◌, ◌≡◌, drop, length};
+ghost use Rattle.std.specs.Prelude.{◌+◌, ◌*◌, ◌≤◌, ◌≡◌, drop, length};
 ghost use Rattle.wire.specs.Bodies.{stage_from_bytes, stage_size};
 ghost use Rattle.wire.specs.Altering.{Alterable, body_with};
 
-use crate::reader::{stage_at, stage_size};
+use crate::reader::{STAGE_BYTES, WIDE_STAGE_BYTES, stage_at};
 use crate::writer::put_stage;
 use states::set_stage;
 use values::{Stage, StateWrite};
+
+// Where a stage begins.
+fn stage_place(wide: bool, stage: u8) -> usize
+    ensures { result ≡ stage_size wide * stage }
+{
+    let i = stage as usize;
+    if wide {
+        WIDE_STAGE_BYTES * i
+    } else {
+        STAGE_BYTES * i
+    }
+}
 
 // The stage whose bytes begin at a place: nine of them, if it is wide, or seven.
 fn stage_in(body: &[u8], at: usize, wide: bool) -> Stage
@@ -24,7 +36,7 @@ pub fn alter(body: &mut [u8], wide: bool, write: StateWrite)
     requires { Alterable wide body.old write }
     ensures { body.new ≡ body_with wide body.old write }
 {
-    let at = stage_size(wide) * write.stage as usize;
+    let at = stage_place(wide, write.stage);
     let before = stage_in(body, at, wide);
     let after = set_stage(before, write.state, write.value as u8);
     put_stage(body, at, after, wide);

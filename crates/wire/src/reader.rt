@@ -11,16 +11,16 @@ use states::DEFAULT_ARG0;
 use values::{Combiner, Entry, Key, Refusal, Stage, StateWrite, Variant};
 
 // How many bytes a stage has in a key of each kind.
-const STAGE_BYTES: usize = 7;
+pub(crate) const STAGE_BYTES: usize = 7;
 
-const WIDE_STAGE_BYTES: usize = 9;
+pub(crate) const WIDE_STAGE_BYTES: usize = 9;
 
 // Where specular add stands in a key's body, behind the eight stages; the projected mask stands behind it.
 const SPECULAR_AT: usize = 8 * STAGE_BYTES;
 
 const WIDE_SPECULAR_AT: usize = 8 * WIDE_STAGE_BYTES;
 
-pub(crate) fn stage_size(wide: bool) -> usize
+fn stage_size(wide: bool) -> usize
     ensures { result ≡ stage_size wide }
 {
     if wide { WIDE_STAGE_BYTES } else { STAGE_BYTES }

@@ -1,20 +1,13 @@
 -- The stage that the write names is read, altered and laid over its bytes, which makes the body that of the altered key.
 use Rattle.std.proofs.Common.{arith}
 use Rattle.states.proofs.Accepted.{free, takes_byte}
-use Rattle.wire.specs.Bodies.{key_kind}
-use Rattle.wire.proofs.Bodies.{body_short}
 use Rattle.wire.proofs.Altered.{altered_body, stage_within}
 use Rattle.wire.proofs.alter.alter.Goals as goal
-
-pub overflow_mul-at : goal.overflow_mul-at
-overflow_mul-at c =
-    let i = (free c.args.write c.requires.taken).stage in
-    rw c.stage_size.ensures (omega (arith, stage_within c.args.wide c.args.write.stage i, body_short (key_kind c.args.wide)))
 
 pub stage_in-before-requires : goal.stage_in-before-requires
 stage_in-before-requires c =
     let i = (free c.args.write c.requires.taken).stage in
-    rw c.stage_size.ensures (omega (arith, stage_within c.args.wide c.args.write.stage i, c.requires.whole))
+    omega (arith, c.stage_place-at.ensures, stage_within c.args.wide c.args.write.stage i, c.requires.whole)
 
 pub overflow_cast-write : goal.overflow_cast-write
 overflow_cast-write c =
@@ -23,5 +16,5 @@ overflow_cast-write c =
 
 pub returns : goal.returns
 returns c =
-    let written = rw (c.set_stage-after.ensures, c.stage_in-before.ensures, c.stage_size.ensures) at c.put_stage.ensures in
+    let written = rw (c.set_stage-after.ensures, c.stage_in-before.ensures, c.stage_place-at.ensures) at c.put_stage.ensures in
     altered_body c.args.wide c.args.body.now c.args.write c.requires written
