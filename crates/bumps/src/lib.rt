@@ -155,7 +155,8 @@ fn put_bumped(out: &mut [u8], at: usize, b: &BumpStage, s: Sampling) -> usize
     }
 }
 
-// Everything that the lookup of a stage writes, behind a bump stage or not.
+// Everything that the lookup of a stage writes, behind a bump stage or not. The bump stage is lent: a struct that holds a stage's number is not yet
+// proved where it is passed by value twice.
 #[tactic(auto, unfolding(shader::specs::Lookups::sample_text))]
 pub fn put_sample(out: &mut [u8], at: usize, before: Option<BumpStage>, s: Sampling) -> usize
     ensures { Wrote out.old at out.new result (sample_text before s.lookup s.lod s.projected s.stage) }
