@@ -24,11 +24,13 @@ abbrev Fits : Step → Type 0
 Fits t = (t.answer.line ≡ length t.line) × (t.answer.text ≤ length t.text)
 
 answered_fits : (a : Result Applied Refusal) (h : Held) (s : Session) (out : List ℕ) → Sized s.held a → Fits (answered_step a h s out)
+unfolding answered_step
 answered_fits (Ok (Replaced m)) h s out z = (refl, omega arith)
 answered_fits (Ok (Text m e)) h s out z = (refl, rw z (simp length-append (omega arith)))
 answered_fits (Err c) h s out z = (refl, omega arith)
 
 step_fits : (s : Session) (b out : List ℕ) → Fits (step_of s b out)
+unfolding step_of
 step_fits s b out =
     cond_both (ready s b) _ _ Fits (λ _.
     cond_both (eqb s.at (length b)) _ _ Fits (λ _. (refl, omega arith)) (λ _.

@@ -27,11 +27,13 @@ Onward s b next = IfSome next (λ n. (s.at < n.at) × ((n.at ≤ length b) × (s
 
 answered_onward : (a : Result Applied Refusal) (h : Held) (s : Session) (b out : List ℕ) → Takes (length (drop s.at b)) a →
     Onward s b (answered_step a h s out).answer.next
+unfolding answered_step
 answered_onward (Ok (Replaced m)) h s b out t = let d = t.0 in let f = simp length-drop at t.1 in (omega arith, (omega arith, λ k. omega arith))
 answered_onward (Ok (Text m e)) h s b out t = let d = t.0 in let f = simp length-drop at t.1 in (omega arith, (omega arith, λ k. omega arith))
 answered_onward (Err c) h s b out t = tt
 
 onward : (s : Session) (b out : List ℕ) → Onward s b (step_of s b out).answer.next
+unfolding step_of
 onward s b out =
     let On : Step → Type 0 = λ t. Onward s b t.answer.next in
     cond_both (ready s b) _ _ On (λ _.
@@ -113,12 +115,13 @@ prints t rest = t.line ++ (take t.answer.text t.text ++ rest)
 
 answered_left : (a : Result Applied Refusal) (h : Held) (s : Session) (b out : List ℕ) → Sized s.held a →
     printed a s.at s.held (λ m more. left (onwards s m more h) b) ≡ prints (answered_step a h s out) (left_for (answered_step a h s out).answer.next b)
-unfolding printed
+unfolding printed answered_step
 answered_left (Ok (Replaced m)) h s b out z = refl
 answered_left (Ok (Text m e)) h s b out z = rw (take_at (text_held (all_held s.held)) _ e.length (sym z))
 answered_left (Err c) h s b out z = sym (append-nil _)
 
 left_step : (s : Session) (b out : List ℕ) → s.at ≤ length b → s.texts ≤ s.at → left s b ≡ prints (step_of s b out) (left_for (step_of s b out).answer.next b)
+unfolding step_of
 left_step s b out w t = rw (le-leb _ _ w, le-leb _ _ t) (go (eqb s.at (length b)) refl)
   where
     strict : (s.at ≡ length b → ⊥) → s.at < length b

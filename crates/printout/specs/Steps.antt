@@ -31,7 +31,7 @@ abbrev pub last_step : List ℕ → List ℕ → Step
 last_step line out = record { answer = stepped (length line) 0 None; line = line; text = out }
 
 -- by the answer to the record where the session stands, h being held then
-abbrev pub answered_step : Result Applied Refusal → Held → Session → List ℕ → Step
+unfoldable pub answered_step : Result Applied Refusal → Held → Session → List ℕ → Step
 answered_step (Ok (Replaced m)) h s out = record { answer = stepped 0 0 (Some (onwards s m 0 h)); line = []; text = out }
 answered_step (Ok (Text m e)) h s out =
     record {
@@ -50,6 +50,6 @@ abbrev pub ready : Session → List ℕ → Bool
 ready s b = leb s.at (length b) && leb s.texts s.at
 
 -- a session that cannot belong to the input b prints nothing, and all is left
-abbrev pub step_of : Session → List ℕ → List ℕ → Step
+unfoldable pub step_of : Session → List ℕ → List ℕ → Step
 step_of s b out =
     cond (ready s b) (cond (eqb s.at (length b)) (last_step (end_line s.texts) out) (record_step s b out)) (last_step [] out)

@@ -67,7 +67,7 @@ fn on(session: Session, took: usize, texts: usize, after: Held) -> Session
 }
 
 // The record where the session stands, applied, and what is printed for it.
-#[tactic(auto, using(crate::proofs::Taking::replaced_fits, crate::proofs::Taking::text_fits))]
+#[tactic(auto, using(crate::proofs::Taking::replaced_fits, crate::proofs::Taking::text_fits), unfolding(crate::specs::Steps::answered_step))]
 fn step_record(
     session: Session,
     input: &[u8],
@@ -105,6 +105,7 @@ fn ready(session: Session, input: &[u8]) -> bool
 
 // What the session prints next for this input: for a record, or the line behind the last. A session whose offset lies beyond the input, or that
 // counts more texts than bytes read, cannot belong to this input, and prints nothing.
+#[tactic(auto, unfolding(crate::specs::Steps::step_of))]
 pub fn step(
     session: Session,
     input: &[u8],

@@ -19,7 +19,7 @@ one_more true n = omega arith
 one_more false n = omega arith
 
 -- one more stage read
-next_stage : (wide : Bool) (n : ℕ) (b : List ℕ) →
+pub next_stage : (wide : Bool) (n : ℕ) (b : List ℕ) →
     stages_from_bytes wide (suc n) b ≡ stages_from_bytes wide n b ++ (stage_from_bytes wide (drop (stage_size wide * n) b) ∷ [])
 unfolding stages_from_bytes
 next_stage wide zero b = ap (λ (m : ℕ). stage_from_bytes wide (drop m b) ∷ []) (none_before wide)

@@ -20,13 +20,13 @@ const SPECULAR_AT: usize = 8 * STAGE_BYTES;
 
 const WIDE_SPECULAR_AT: usize = 8 * WIDE_STAGE_BYTES;
 
-fn stage_size(wide: bool) -> usize
+pub fn stage_size(wide: bool) -> usize
     ensures { result ≡ stage_size wide }
 {
     if wide { WIDE_STAGE_BYTES } else { STAGE_BYTES }
 }
 
-fn specular_at(wide: bool) -> usize
+pub fn specular_at(wide: bool) -> usize
     ensures { result ≡ specular_at wide }
 {
     if wide { WIDE_SPECULAR_AT } else { SPECULAR_AT }
