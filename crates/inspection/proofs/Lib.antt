@@ -1,2 +1,2 @@
-mod Numbers
 mod Bytes
+mod Numbers

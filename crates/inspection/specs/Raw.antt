@@ -1,6 +1,6 @@
 -- A key of kind 1 as its bytes lie. An argument 0, which no op of such a key has, is the byte behind its combiner's three, so that four bytes are read at
 -- once. Only contracts of functions that the C interface calls cite it.
-use Rattle.std.specs.Prelude.{ℕ, Bool, false, ◌||◌, List, [], ◌∷◌, eqb, drop, get_or}
+use Rattle.std.specs.Prelude.{ℕ, zero, suc, Bool, false, ◌||◌, List, [], ◌∷◌, eqb, drop, get_or}
 use Rattle.combiners.specs.Combiners.{three_operands}
 use Rattle.wire.specs.Bodies.{specular_byte}
 use Rattle.values.specs.declared.Stage.{Stage}
@@ -14,20 +14,13 @@ raw_stage b =
       flags = get_or b 6 0;
     }
 
-abbrev pub raw_stages : List ℕ → List Stage
-raw_stages b =
-    raw_stage b
-    ∷ raw_stage (drop 7 b)
-    ∷ raw_stage (drop 14 b)
-    ∷ raw_stage (drop 21 b)
-    ∷ raw_stage (drop 28 b)
-    ∷ raw_stage (drop 35 b)
-    ∷ raw_stage (drop 42 b)
-    ∷ raw_stage (drop 49 b)
-    ∷ []
+-- the first n stages
+unfoldable pub raw_stages : ℕ → List ℕ → List Stage
+raw_stages zero b = []
+raw_stages (suc n) b = raw_stage b ∷ raw_stages n (drop 7 b)
 
 unfoldable pub raw_key : List ℕ → Key
-raw_key b = record { stages = raw_stages b; specular_add = eqb (specular_byte false b) 1; projected = get_or b 57 0; wide = false }
+raw_key b = record { stages = raw_stages 8 b; specular_add = eqb (specular_byte false b) 1; projected = get_or b 57 0; wide = false }
 
 -- some of these bytes is one that an op of three operands has
 unfoldable pub any_byte_of_three : List ℕ → Bool

@@ -1,160 +1,108 @@
 //! The causes 1 to 6 and 10 to 13 of a record, found on its bytes: of a key and a variant no value is made.
-ghost use Rattle.std.specs.Prelude.{◌≤◌, ◌≡◌, cond, false, true, ltb, length};
+ghost use Rattle.std.specs.Prelude.{◌≤◌, ◌≡◌, cond, ltb, length};
 ghost use Rattle.values.specs.Flags.{stage_flags_bad};
-ghost use Rattle.wire.specs.Bodies.{body_length, key_from_body};
-ghost use Rattle.wire.specs.Reading.{body_number, by_kind, record_number};
+ghost use Rattle.values.specs.Refusals.{number_in};
+ghost use Rattle.wire.specs.Bodies.{body_length, key_from_body, key_kind};
+ghost use Rattle.wire.specs.Reading.{body_number, read_record, record_number};
+ghost use Rattle.inspection.specs.Kinds.{kind_read};
 
-use crate::{ACCEPTED, refuse};
 use admission::{entry_good, entry_reserved};
-use states::{Checked, check};
+use states::check;
 use values::Refusal;
-use wire::reader::{entry_from_body, state_from_body};
-use wire::{
-    KIND_EMIT, KIND_ENTRY, KIND_KEY, KIND_STATE, KIND_VARIANT, KIND_WIDE_KEY, Kind, body_length,
-};
+use wire::reader::{entry_from_body, specular_at, stage_size, state_from_body};
+use wire::{Kind, body_length};
 
 // The lowest flag bit without a meaning: bit 2 of a stage, bit 6 of a variant.
 const UNUSED_STAGE_FLAG: u8 = 4;
 
 const UNUSED_VARIANT_FLAG: u8 = 64;
 
-// Where a key's body has its specular byte, and a variant's its flags.
-const SPECULAR_AT: usize = 56;
-
-const WIDE_SPECULAR_AT: usize = 72;
-
+// Where a variant's body has its flags.
 const VARIANT_FLAGS_AT: usize = 18;
 
-// The flags of a stage are the last of its bytes, of which there are seven.
-fn key_flags_bad(body: &[u8]) -> bool
-    requires { body_length Kind.Key ≤ length body.now }
-    ensures { result ≡ stage_flags_bad (key_from_body false body.now).stages }
+// The flags of a stage are the last of its bytes. All eight are asked, with no branch between them.
+fn key_flags_bad<const WIDE: bool>(body: &[u8]) -> bool
+    requires { body_length (key_kind WIDE) ≤ length body.now }
+    ensures { result ≡ stage_flags_bad (key_from_body WIDE body.now).stages }
 {
-    (UNUSED_STAGE_FLAG <= body[6])
-        | ((UNUSED_STAGE_FLAG <= body[13])
-            | ((UNUSED_STAGE_FLAG <= body[20])
-                | ((UNUSED_STAGE_FLAG <= body[27])
-                    | ((UNUSED_STAGE_FLAG <= body[34])
-                        | ((UNUSED_STAGE_FLAG <= body[41])
-                            | ((UNUSED_STAGE_FLAG <= body[48])
-                                | (UNUSED_STAGE_FLAG <= body[55])))))))
-}
-
-// A stage of a wide key has nine.
-fn wide_key_flags_bad(body: &[u8]) -> bool
-    requires { body_length Kind.WideKey ≤ length body.now }
-    ensures { result ≡ stage_flags_bad (key_from_body true body.now).stages }
-{
-    (UNUSED_STAGE_FLAG <= body[8])
-        | ((UNUSED_STAGE_FLAG <= body[17])
-            | ((UNUSED_STAGE_FLAG <= body[26])
-                | ((UNUSED_STAGE_FLAG <= body[35])
-                    | ((UNUSED_STAGE_FLAG <= body[44])
-                        | ((UNUSED_STAGE_FLAG <= body[53])
-                            | ((UNUSED_STAGE_FLAG <= body[62])
-                                | (UNUSED_STAGE_FLAG <= body[71])))))))
-}
-
-// Of a key whose stages may have bad flags, with its specular byte.
-fn key_cause(flags_bad: bool, specular: u8) -> u64
-    ensures { result ≡ cond flags_bad 3 (cond (ltb 1 specular) 4 0) }
-{
-    if flags_bad {
-        return refuse(Refusal::StageFlags);
+    let wide = WIDE;
+    let size = stage_size(wide);
+    let mut bad = false;
+    for i in 0..8 {
+        bad |= UNUSED_STAGE_FLAG <= body[size * i + size - 1];
     }
-    if 1 < specular {
-        return refuse(Refusal::SpecularAdd);
+    bad
+}
+
+// Of a key of kind 6, if it is wide, or of kind 1.
+pub fn key_cause<const WIDE: bool>(body: &[u8]) -> Result<(), Refusal>
+    requires { body_length (key_kind WIDE) ≤ length body.now }
+    ensures { number_in result ≡ body_number (key_kind WIDE) body.now }
+{
+    if key_flags_bad::<WIDE>(body) {
+        return Err(Refusal::StageFlags);
     }
-    ACCEPTED
+    if 1 < body[specular_at(WIDE)] {
+        return Err(Refusal::SpecularAdd);
+    }
+    Ok(())
 }
 
-pub fn narrow_key_number(body: &[u8]) -> u64
-    requires { body_length Kind.Key ≤ length body.now }
-    ensures { result ≡ body_number Kind.Key body.now }
-{
-    key_cause(key_flags_bad(body), body[SPECULAR_AT])
-}
-
-pub fn wide_key_number(body: &[u8]) -> u64
-    requires { body_length Kind.WideKey ≤ length body.now }
-    ensures { result ≡ body_number Kind.WideKey body.now }
-{
-    key_cause(wide_key_flags_bad(body), body[WIDE_SPECULAR_AT])
-}
-
-pub fn variant_number(body: &[u8]) -> u64
+pub fn variant_cause(body: &[u8]) -> Result<(), Refusal>
     requires { body_length Kind.Variant ≤ length body.now }
-    ensures { result ≡ body_number Kind.Variant body.now }
+    ensures { number_in result ≡ body_number Kind.Variant body.now }
 {
     if UNUSED_VARIANT_FLAG <= body[VARIANT_FLAGS_AT] {
-        return refuse(Refusal::VariantFlags);
+        return Err(Refusal::VariantFlags);
     }
-    ACCEPTED
+    Ok(())
 }
 
-pub fn entry_number(body: &[u8]) -> u64
+pub fn entry_cause(body: &[u8]) -> Result<(), Refusal>
     requires { body_length Kind.Entry ≤ length body.now }
-    ensures { result ≡ body_number Kind.Entry body.now }
+    ensures { number_in result ≡ body_number Kind.Entry body.now }
 {
     let entry = entry_from_body(body);
     if !entry_good(entry) {
-        return refuse(Refusal::EntryName);
+        return Err(Refusal::EntryName);
     }
     if entry_reserved(entry) {
-        return refuse(Refusal::ReservedWord);
+        return Err(Refusal::ReservedWord);
     }
-    ACCEPTED
+    Ok(())
 }
 
-fn state_number(body: &[u8]) -> u64
+fn state_cause(body: &[u8]) -> Result<(), Refusal>
     requires { body_length Kind.State ≤ length body.now }
-    ensures { result ≡ body_number Kind.State body.now }
+    ensures { number_in result ≡ body_number Kind.State body.now }
 {
-    let write = state_from_body(body);
-    match check(write) {
-        Checked::Bad(refusal) => refuse(refusal),
-        Checked::Good => ACCEPTED,
-    }
+    check(state_from_body(body))
 }
 
 // Of the body of a kind at the front of some bytes.
-pub fn kind_number(kind: Kind, body: &[u8]) -> u64
-    ensures { result ≡ cond (ltb (length body.now) (body_length kind)) 1 (body_number kind body.now) }
+pub fn kind_cause(kind: Kind, body: &[u8]) -> Result<(), Refusal>
+    ensures { number_in result ≡ cond (ltb (length body.now) (body_length kind)) 1 (body_number kind body.now) }
 {
     if body.len() < body_length(kind) {
-        return refuse(Refusal::CutShort);
+        return Err(Refusal::CutShort);
     }
     match kind {
-        Kind::Key => narrow_key_number(body),
-        Kind::Variant => variant_number(body),
-        Kind::Entry => entry_number(body),
-        Kind::Emit => ACCEPTED,
-        Kind::State => state_number(body),
-        Kind::WideKey => wide_key_number(body),
+        Kind::Key => key_cause::<false>(body),
+        Kind::Variant => variant_cause(body),
+        Kind::Entry => entry_cause(body),
+        Kind::Emit => Ok(()),
+        Kind::State => state_cause(body),
+        Kind::WideKey => key_cause::<true>(body),
     }
 }
 
-// Of what stands behind a kind byte.
-fn byte_number(byte: u8, body: &[u8]) -> u64
-    ensures { result ≡ by_kind byte (λ k. cond (ltb (length body.now) (body_length k)) 1 (body_number k body.now)) 2 }
+// The kind of the record at the front of some bytes, or why there is none.
+pub fn record_kind(bytes: &[u8]) -> Result<Kind, Refusal>
+    ensures kind { result ≡ kind_read (read_record bytes.now) }
+    ensures number { number_in result ≡ record_number bytes.now }
 {
-    match byte {
-        KIND_KEY => kind_number(Kind::Key, body),
-        KIND_VARIANT => kind_number(Kind::Variant, body),
-        KIND_ENTRY => kind_number(Kind::Entry, body),
-        KIND_EMIT => kind_number(Kind::Emit, body),
-        KIND_STATE => kind_number(Kind::State, body),
-        KIND_WIDE_KEY => kind_number(Kind::WideKey, body),
-        _ => refuse(Refusal::UnknownKind),
-    }
-}
-
-// Of the record at the front of some bytes.
-pub fn record_number(bytes: &[u8]) -> u64
-    ensures { result ≡ record_number bytes.now }
-{
-    if 0 < bytes.len() {
-        return byte_number(bytes[0], &bytes[1..]);
-    }
-    refuse(Refusal::CutShort)
+    let (byte, body) = bytes.split_first().ok_or(Refusal::CutShort)?;
+    let kind = Kind::try_from(*byte)?;
+    kind_cause(kind, body)?;
+    Ok(kind)
 }

@@ -1,10 +1,19 @@
--- The flags of stage i are byte 7 i + 6 of the body.
-use mathlib.Core.Bool.{or-false}
-use Rattle.std.proofs.Common.{get_or-drop}
+-- One more stage is asked at each step, and at the end all eight are.
+use Rattle.std.proofs.Common.{arith, ℕ, ◌≡◌, refl, ap, ◌∙◌}
 use Rattle.values.specs.Flags.{stage_flags_bad}
 use Rattle.wire.specs.Bodies.{stages_from_bytes, key_from_body}
+use Rattle.inspection.proofs.Bytes.{stage_asked}
 use Rattle.inspection.proofs.causes.key_flags_bad.Goals as goal
 
+pub loop-i-init : goal.loop-i-init
+unfolding stage_flags_bad stages_from_bytes
+loop-i-init g c = refl
+
+pub loop-i-preserved : goal.loop-i-preserved
+loop-i-preserved g c = rw c.stage_size-size.ensures (stage_asked _ c.args.body.now c.loop-i.i c.loop-i.invariant refl)
+
 pub returns : goal.returns
-unfolding key_from_body stages_from_bytes stage_flags_bad
-returns c = simp (get_or-drop, or-false)
+unfolding key_from_body
+returns g c =
+    let all : c.loop-i.i ≡ 8 = omega arith in
+    c.loop-i.invariant ∙ ap (λ (n : ℕ). stage_flags_bad (stages_from_bytes _ n c.args.body.now)) all

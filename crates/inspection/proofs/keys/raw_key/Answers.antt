@@ -4,4 +4,4 @@ use Rattle.inspection.proofs.keys.raw_key.Goals as goal
 
 pub returns : goal.returns
 unfolding raw_key
-returns c = rw c.raw_stages-stages.ensures
+returns c = rw c.raw_stages.ensures

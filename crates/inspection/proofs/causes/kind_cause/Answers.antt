@@ -1,8 +1,8 @@
--- A body that is cut short, or the number of a whole body of the kind: that of a body of an emission is 0.
+-- The number of a whole body of the kind: that of a body of an emission is 0.
 use Rattle.std.proofs.Common.{refl}
 use Rattle.wire.specs.Reading.{body_number}
 use Rattle.inspection.proofs.Numbers.{not_short}
-use Rattle.inspection.proofs.causes.kind_number.Goals as goal
+use Rattle.inspection.proofs.causes.kind_cause.Goals as goal
 
 pub returns-in-Emit : goal.returns-in-Emit
 unfolding body_number

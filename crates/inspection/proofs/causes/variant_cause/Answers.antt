@@ -2,11 +2,11 @@
 use borrow.Author.Tests.{le-leb, lt-leb}
 use Rattle.wire.specs.Bodies.{variant_from_body}
 use Rattle.wire.specs.Reading.{body_number}
-use Rattle.inspection.proofs.causes.variant_number.Goals as goal
+use Rattle.inspection.proofs.causes.variant_cause.Goals as goal
 
 pub returns-then-body-ge-UNUSED_VARIANT_FLAG : goal.returns-then-body-ge-UNUSED_VARIANT_FLAG
 unfolding body_number variant_from_body
-returns-then-body-ge-UNUSED_VARIANT_FLAG c = rw (le-leb _ _ c.if-body-ge-UNUSED_VARIANT_FLAG.true) c.refuse.ensures
+returns-then-body-ge-UNUSED_VARIANT_FLAG c = rw (le-leb _ _ c.if-body-ge-UNUSED_VARIANT_FLAG.true)
 
 pub returns : goal.returns
 unfolding body_number variant_from_body
