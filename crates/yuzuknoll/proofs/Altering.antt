@@ -10,7 +10,9 @@ use borrow.Author.Tests.{eqb-true, eq-eqb}
 use lib.Dec.{eqb, ltb}
 use lib.ListN.{length, take, drop, get_or, length-drop, take-append-drop}
 use lib.Seq.{sets, sets-eq, drop-append-le, drop-drop, length-take-le, take_all}
+use Rattle.std.specs.Prelude.{Result, is_some}
 use Rattle.values.specs.Flags.{stage_flags_bad}
+use Rattle.values.specs.declared.Refusal.{Refusal}
 use Rattle.values.specs.declared.Key.{Key}
 use Rattle.values.specs.declared.StateWrite.{StateWrite}
 use Rattle.states.specs.Types.{sets_arg0}
@@ -18,29 +20,30 @@ use Rattle.states.specs.States.{defaults, set_state, wide_stages}
 use Rattle.states.specs.Writes.{accepted, state_write_number, write_applied}
 use Rattle.states.proofs.Keys.{defaults_eight, defaults_free, flags_kept, kept}
 use Rattle.states.proofs.Widening.{set_in, wide_after}
-use Rattle.wire.specs.Bodies.{body_bytes, body_length, key_bytes, key_kind, key_from_body, kind_byte, record_bytes, record_length, state_from_body}
-use Rattle.wire.specs.Values.{key_record, state_record}
+use Rattle.wire.specs.Bodies.{kind_of, body_bytes, body_length, key_bytes, key_kind, key_from_body, kind_byte, record_bytes, record_length, state_from_body}
+use Rattle.wire.specs.Values.{key_record}
 use Rattle.wire.specs.Reading.{body_number, record_number}
 use Rattle.wire.specs.Writing.{after_writing, write_answer}
 use Rattle.wire.specs.Altering.{Alterable, body_with}
+use Rattle.wire.specs.declared.Kind.{Kind}
 use Rattle.wire.specs.declared.Kind.TheVariants as kind
 use Rattle.wire.specs.declared.Record.{Record}
-use Rattle.wire.specs.declared.WriteAnswer.{WriteAnswer}
-use Rattle.wire.proofs.Bodies.{Bytes, key_body, key_free, key_settled, key_shaped, record-length, stages_count, state_back}
+use Rattle.wire.specs.declared.Record.TheVariants as rec
+use Rattle.wire.proofs.Bodies.{Bytes, key_body, key_free, key_kind_of, key_settled, key_shaped, record-length, stages_count, state_back}
 use Rattle.wire.proofs.Found.{Taken, front}
 use Rattle.wire.proofs.Written.{fits_writes}
-use Rattle.records.specs.Applying.{key_or_defaults}
+use Rattle.records.specs.Applying.{or_defaults, key_or_defaults}
 use Rattle.yuzuknoll.specs.Records.{kind_in}
-use Rattle.yuzuknoll.specs.Applying.{held_length, held_byte, held_body, held_wide, is_record, held_of, altered_record}
+use Rattle.yuzuknoll.specs.Applying.{held_length, held_byte, held_body, held_wide, is_record, held_if, held_of, altered_record}
 use Rattle.yuzuknoll.proofs.Checking.{taken}
 use Rattle.yuzuknoll.proofs.Emitting.{body_free}
-use Rattle.yuzuknoll.proofs.Applying.{both, held_free, key_fits, key_within}
+use Rattle.yuzuknoll.proofs.Applying.{both, held_free, key_fits, key_part, key_within}
 
 -- the write of a record that was taken
-pub state_in : (b : List ℕ) (s : StateWrite) → Bytes b → Taken b (state_record s) → state_from_body (drop 1 b) ≡ s
+pub state_in : (b : List ℕ) (s : StateWrite) → Bytes b → Taken b (rec.State s) → state_from_body (drop 1 b) ≡ s
 unfolding body_bytes
 state_in b s w t =
-    ap (λ (l : List ℕ). state_from_body (drop 1 l)) (front b (state_record s) t w) ∙ state_back s (drop (record_length kind.State) b)
+    ap (λ (l : List ℕ). state_from_body (drop 1 l)) (front b (rec.State s) t w) ∙ state_back s (drop (record_length kind.State) b)
 
 -- the write behind a kind byte, as the code reads it
 pub write_read : (b : List ℕ) {s : StateWrite} → 1 ≤ length b → s ≡ state_from_body (take (length b - 1) (drop 1 b)) → s ≡ state_from_body (drop 1 b)
@@ -113,7 +116,7 @@ module _ (held : List ℕ) where
   unfolding held_of
   before_recordable = go is_key refl
     where
-      go : (t : Bool) → is_key ≡ t → Recordable (cond t (key_from_body (held_wide held) (held_body kind.Key held)) defaults)
+      go : (t : Bool) → is_key ≡ t → Recordable (or_defaults (held_if t (key_from_body (held_wide held) (held_body kind.Key held))))
       go true e = read_recordable (held_wide held) (held_body kind.Key held) (held_free (key_kind (held_wide held)) (held_byte kind.Key held) _ e)
       go false e = record { eight = defaults_eight; free = defaults_free; settled = defaults_settled }
 
@@ -124,19 +127,19 @@ module _ (held : List ℕ) where
   altered_recordable s = written_recordable s (key_or_defaults (held_of held)) before_recordable
 
 -- the record of such a key, written to the front of bytes that have room for it
-key_written : (held : List ℕ) (k : Key) {a : WriteAnswer} {held' : List ℕ} → length held ≡ held_length → Recordable k →
+key_written : (held : List ℕ) (k : Key) {a : Result ℕ Refusal} {held' : List ℕ} → length held ≡ held_length → Recordable k →
     a ≡ write_answer (key_record k) (length held) → held' ≡ after_writing a (record_bytes (key_record k)) held →
     held' ≡ sets held 0 (record_bytes (key_record k))
 key_written held k h r e p =
     let v = record_bytes (key_record k) in
     let size = record-length (key_record k) (key_shaped k r.eight) in
     let within = key_within k.wide in
-    let fits : record_length (key_kind k.wide) ≤ length held = omega (arith, within) in
-    p ∙ ap (λ (a : WriteAnswer). after_writing a v held) (e ∙ fits_writes (key_record k) (length held) (key_free k r.free) fits)
+    let fits : record_length (kind_of (key_record k)) ≤ length held = omega (arith, within, ap body_length (key_kind_of k)) in
+    p ∙ ap (λ (a : Result ℕ Refusal). after_writing a v held) (e ∙ fits_writes (key_record k) (length held) (key_free k r.free) fits)
     ∙ sym (sets-eq v held 0 (omega (arith, size, fits)) ∙ rw zero-add)
 
 -- The record of the altered key, written anew, from what the calls of the code promise.
-pub key_rewritten : (held : List ℕ) (w : StateWrite) {before k : Key} {made : Record} {a : WriteAnswer} {held' : List ℕ} → length held ≡ held_length →
+pub key_rewritten : (held : List ℕ) (w : StateWrite) {before k : Key} {made : Record} {a : Result ℕ Refusal} {held' : List ℕ} → length held ≡ held_length →
     before ≡ key_or_defaults (held_of held) → k ≡ write_applied w before → made ≡ key_record k → a ≡ write_answer made (length held) →
     held' ≡ after_writing a (record_bytes made) held → held' ≡ sets held 0 (altered_record w held)
 key_rewritten held w {made = made} h f g m p q =
@@ -150,7 +153,7 @@ front_byte (x ∷ l) h = refl
 
 -- A held key altered where it lies.
 module _ (held : List ℕ) (w : StateWrite) (h : length held ≡ held_length) (good : accepted w ≡ true)
-    (there : ((held_of held).has_key && (held_wide held || not (sets_arg0 w.state))) ≡ true) where
+    (there : (is_some (held_of held).key && (held_wide held || not (sets_arg0 w.state))) ≡ true) where
   abbrev wide : Bool
   wide = held_wide held
 
@@ -159,7 +162,7 @@ module _ (held : List ℕ) (w : StateWrite) (h : length held ≡ held_length) (g
 
   held_record : is_key held ≡ true
   unfolding held_of
-  held_record = (both (held_of held).has_key _ there).0
+  held_record = sym (key_part held) ∙ (both (is_some (held_of held).key) _ there).0
 
   body_size : length body ≡ 74
   body_size = length-take-le 74 (drop 1 held) (simp length-drop (omega arith))
@@ -180,7 +183,7 @@ module _ (held : List ℕ) (w : StateWrite) (h : length held ≡ held_length) (g
 
   altered_kind : (altered held w).wide ≡ wide
   unfolding held_of key_from_body write_applied set_state
-  altered_kind = rw (held_record, good) (kind_left wide (sets_arg0 w.state) (both (held_of held).has_key _ there).1)
+  altered_kind = rw (held_record, good) (kind_left wide (sets_arg0 w.state) (both (is_some (held_of held).key) _ there).1)
 
   held_key : key_or_defaults (held_of held) ≡ key_from_body wide body
   unfolding held_of
@@ -191,7 +194,8 @@ module _ (held : List ℕ) (w : StateWrite) (h : length held ≡ held_length) (g
   record_there =
       let k = altered held w in
       let byte = eqb-true _ _ (both (eqb (held_byte kind.Key held) (kind_byte (key_kind wide))) _ held_record).0 in
-      ap (λ (l : List ℕ). kind_byte (key_kind k.wide) ∷ l) (key_body k)
+      ap (λ (x : Kind). kind_byte x ∷ body_bytes (key_record k)) (key_kind_of k)
+      ∙ ap (λ (l : List ℕ). kind_byte (key_kind k.wide) ∷ l) (key_body k)
       ∙ ap (λ (t : Bool). kind_byte (key_kind t) ∷ key_bytes t k) altered_kind
       ∙ ap (λ (x : ℕ). x ∷ key_bytes wide k) (sym byte)
       ∙ ap (λ (q : Key). held_byte kind.Key held ∷ key_bytes wide (write_applied w q)) held_key
@@ -207,7 +211,9 @@ module _ (held : List ℕ) (w : StateWrite) (h : length held ≡ held_length) (g
   altered_size : length (altered_record w held) ≡ record_length (key_kind wide)
   altered_size =
       let k = altered held w in
-      record-length (key_record k) (key_shaped k (altered_recordable held w).eight) ∙ ap (λ (t : Bool). record_length (key_kind t)) altered_kind
+      record-length (key_record k) (key_shaped k (altered_recordable held w).eight)
+      ∙ ap record_length (key_kind_of k)
+      ∙ ap (λ (t : Bool). record_length (key_kind t)) altered_kind
 
   record_laid : sets held 0 (altered_record w held) ≡ altered_record w held ++ drop (record_length (key_kind wide)) held
   record_laid =

@@ -6,7 +6,8 @@ use mathlib.Core.List.{List}
 use native.Mathlib.Omega.{arith}
 use lib.Dec.{eqb, ltb}
 use lib.ListN.{length}
-use Rattle.values.specs.Refusals.{number_of}
+use Rattle.std.specs.Prelude.{Result, Ok, Err}
+use Rattle.values.specs.Refusals.{number_of, number_in}
 use Rattle.values.specs.Flags.{stage_flags_bad, variant_flags_bad}
 use Rattle.values.specs.Entries.{entry_good}
 use Rattle.values.specs.Words.{entry_reserved}
@@ -17,9 +18,7 @@ use Rattle.values.specs.declared.Entry.{Entry}
 use Rattle.values.specs.declared.Emitted.{Emitted}
 use Rattle.values.specs.declared.Refusal.{Refusal}
 use Rattle.values.specs.declared.Refusal.TheVariants.{StageFlags, VariantFlags, EntryName, ReservedWord, NoRoom}
-use Rattle.values.specs.declared.Answer.{Answer}
-use Rattle.values.specs.declared.Answer.TheVariants.{Text, Refused}
-use Rattle.shader.specs.Results.{emitted_of, text_of, answer_of, answer_number, emission_number, buffer_after}
+use Rattle.shader.specs.Results.{emitted_of, text_of, answer_of, emission_number, buffer_after}
 use Rattle.shader.specs.Demand.{Demanded}
 use Rattle.emission.proofs.InPlace.{InPlace, place_number, place_demand}
 use Rattle.wire.specs.Bodies.{key_kind, specular_byte, key_from_body, variant_from_body, entry_from_body}
@@ -27,7 +26,8 @@ use Rattle.wire.specs.Reading.{body_number}
 use Rattle.wire.specs.declared.Kind.TheVariants as kind
 use Rattle.yuzuknoll.specs.Lent.{after, first_of, at_front, result_numbers, ReportedDemands}
 use Rattle.yuzuknoll.specs.Emitting.{bodies_number, bodies_text, bodies_result}
-use Rattle.yuzuknoll.proofs.Lent.{not_zero, left, first_refused, first_passed, first_zero}
+use Rattle.inspection.proofs.Numbers.{not_zero}
+use Rattle.yuzuknoll.proofs.Lent.{left, first_refused, first_passed, first_zero}
 
 -- yes as 1 and no as 0 tells which it was
 told : (b : Bool) → eqb (cond b 1 0) 1 ≡ b
@@ -43,20 +43,18 @@ module _ (k : Key) (v : Variant) (e : Entry) (out res : List ℕ) where
       × ((res' ≡ after n (result_numbers (emitted_of k v e)) res) × (n ≡ 0 → ReportedDemands k out' res')))
 
   -- emission's own promise
-  abbrev Promise : Answer → List ℕ → Type 0
+  abbrev Promise : Result Emitted Refusal → List ℕ → Type 0
   Promise a out' =
       (a ≡ answer_of k v e (length out))
-      × ((out' ≡ buffer_after a (text_of k v e) out) × (Demanded k a out' × (answer_number a ≡ emission_number k v e (length out))))
+      × ((out' ≡ buffer_after a (text_of k v e) out) × (Demanded k a out' × (number_in a ≡ emission_number k v e (length out))))
 
-  pub emission_refused : {n : ℕ} {a : Answer} {out' : List ℕ} {c : Refusal} → Promise a out' → a ≡ Refused c → n ≡ number_of c → Emits n out' res
-  emission_refused {n} {c = c} p g q =
-      let h : n ≡ 0 → ⊥ = λ z. not_zero c (sym q ∙ z) in
-      let p' = rw g at p in
-      (q ∙ p'.1.1.1, (p'.1.0 ∙ left _ out h, (left _ res h, λ z. absurd (h z))))
+  pub emission_refused : {a : Result Emitted Refusal} {out' : List ℕ} {c : Refusal} → Promise a out' → a ≡ Err c → Emits (number_of c) out' res
+  emission_refused {c = c} p g =
+      let p' = rw g at p in (p'.1.1.1, (p'.1.0 ∙ left _ out (not_zero c), (left _ res (not_zero c), λ z. absurd (not_zero c z))))
 
   picked : (three five six thirteen eight : Bool) (x m : Emitted) →
-      cond three (Refused StageFlags) (cond five (Refused VariantFlags) (cond six (Refused EntryName) (cond thirteen (Refused ReservedWord)
-      (cond eight (Refused NoRoom) (Text x))))) ≡ Text m
+      cond three (Err StageFlags) (cond five (Err VariantFlags) (cond six (Err EntryName) (cond thirteen (Err ReservedWord)
+      (cond eight (Err NoRoom) (Ok x))))) ≡ Ok m
       → m ≡ x
   picked true five six thirteen eight x m g = cc
   picked false true six thirteen eight x m g = cc
@@ -65,12 +63,12 @@ module _ (k : Key) (v : Variant) (e : Entry) (out res : List ℕ) where
   picked false false false false true x m g = cc
   picked false false false false false x m g = cc
 
-  accepted : {m : Emitted} → answer_of k v e (length out) ≡ Text m → m ≡ emitted_of k v e
+  accepted : {m : Emitted} → answer_of k v e (length out) ≡ Ok m → m ≡ emitted_of k v e
   unfolding answer_of
   accepted g =
       picked (stage_flags_bad k.stages) (variant_flags_bad v) (not (entry_good e)) (entry_reserved e) (ltb (length out) (length (text_of k v e))) _ _ g
 
-  pub emission_accepted : {a : Answer} {out' res' : List ℕ} {m : Emitted} → Promise a out' → a ≡ Text m → res' ≡ result_numbers m → Emits 0 out' res'
+  pub emission_accepted : {a : Result Emitted Refusal} {out' res' : List ℕ} {m : Emitted} → Promise a out' → a ≡ Ok m → res' ≡ result_numbers m → Emits 0 out' res'
   emission_accepted p g q =
       let p' = rw g at p in
       (p'.1.1.1, (p'.1.0, (q ∙ ap result_numbers (accepted (sym p'.0)), λ z. rw (q, told) p'.1.1.0)))

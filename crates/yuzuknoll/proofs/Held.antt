@@ -9,7 +9,7 @@ use borrow.Author.Tests.{ne_eqb}
 use lib.Dec.{eqb}
 use lib.ListN.{length, take, drop, get_or, set, length-drop}
 use lib.Seq.{drop-drop, get_or-take, get_or-drop, sets, sets-eq, length-sets, length-take-le, take-add, take-set-le, drop-set-lt, drop_at, take_at}
-use Rattle.shader.specs.Results.{answer_of}
+use Rattle.std.specs.Prelude.{Result, Err}
 use Rattle.values.specs.Flags.{stage_flags_bad}
 use Rattle.values.specs.Refusals.{number_of}
 use Rattle.values.specs.declared.Key.{Key}
@@ -17,26 +17,24 @@ use Rattle.values.specs.declared.Variant.{Variant}
 use Rattle.values.specs.declared.Entry.{Entry}
 use Rattle.values.specs.declared.StateWrite.{StateWrite}
 use Rattle.states.specs.States.{wide_stages}
-use Rattle.values.specs.declared.Answer.{Answer}
-use Rattle.values.specs.declared.Answer.TheVariants as answer
 use Rattle.values.specs.declared.Refusal.{Refusal}
-use Rattle.values.specs.declared.Refusal.TheVariants.{EmitTooEarly}
-use Rattle.wire.specs.Bodies.{kind_byte, key_kind, record_length, key_from_body, variant_from_body, entry_from_body, key_bytes, body_bytes, record_bytes}
-use Rattle.wire.specs.Reading.{refused, took, body_number, record_number}
-use Rattle.wire.specs.Values.{key_as, key_record, variant_record, entry_record, emit_record, state_record}
+use Rattle.wire.specs.Bodies.{kind_byte, kind_of, key_kind, record_length, key_from_body, variant_from_body, entry_from_body, key_bytes, body_bytes, record_bytes}
+use Rattle.wire.specs.Reading.{took, body_number, record_number}
+use Rattle.wire.specs.Values.{key_as, key_record}
 use Rattle.wire.specs.declared.Kind.{Kind}
 use Rattle.wire.specs.declared.Kind.TheVariants as kind
 use Rattle.wire.specs.declared.Reading.{Reading}
 use Rattle.wire.specs.declared.Record.{Record}
-use Rattle.wire.proofs.Bodies.{Bytes, Free, key_body, key_shaped, record-length, key_back, specular_back, variant_back, entry_back}
+use Rattle.wire.specs.declared.Record.TheVariants as rec
+use Rattle.wire.proofs.Bodies.{Bytes, Free, Shaped, key_body, key_kind_of, key_shaped, record-length, key_back, specular_back, variant_back, entry_back}
 use Rattle.wire.proofs.Found.{Taken, read_cases}
-use Rattle.records.specs.Applying.{holds_all, holding, holding_key, emission_answer, apply_as, apply_read, held_after, applied, applied_number}
+use Rattle.records.specs.Applying as records
+use Rattle.records.specs.Applying.{holding, holding_key, emit_number, held_after, applied_number}
 use Rattle.records.specs.declared.Held.{Held}
-use Rattle.records.specs.declared.ApplyAnswer.TheVariants.{Refused}
 use Rattle.yuzuknoll.specs.Lent.{after}
-use Rattle.yuzuknoll.specs.Records.{kind_in}
-use Rattle.yuzuknoll.specs.Applying.{place_of, room_of, held_length, held_byte, held_body, is_record, held_of, held_with}
-use Rattle.yuzuknoll.proofs.Lent.{not_zero}
+use Rattle.yuzuknoll.specs.Records.{found, kind_in}
+use Rattle.yuzuknoll.specs.Applying.{place_of, room_of, held_length, held_byte, held_body, is_record, held_if, held_of, held_with}
+use Rattle.inspection.proofs.Numbers.{not_zero}
 use Rattle.yuzuknoll.proofs.Applying.{either_way, key_within}
 use Rattle.yuzuknoll.proofs.Altering.{state_in, Recordable, altered, altered_recordable}
 
@@ -91,12 +89,9 @@ wide_in x = eqb (get_or x 0 0) (kind_byte kind.WideKey)
 abbrev held_in : List ℕ → List ℕ → List ℕ → Held
 held_in x y z =
     record {
-      has_key = good (key_kind (wide_in x)) x;
-      key = key_from_body (wide_in x) (drop 1 x);
-      has_variant = good kind.Variant y;
-      variant = variant_from_body (drop 1 y);
-      has_entry = good kind.Entry z;
-      entry = entry_from_body (drop 1 z);
+      key = held_if (good (key_kind (wide_in x)) x) (key_from_body (wide_in x) (drop 1 x));
+      variant = held_if (good kind.Variant y) (variant_from_body (drop 1 y));
+      entry = held_if (good kind.Entry z) (entry_from_body (drop 1 z));
     }
 
 module _ (held : List ℕ) (k : Kind) (h : place_of k < length held) where
@@ -168,25 +163,33 @@ pub key_put : (held : List ℕ) → length held ≡ held_length → (k : Key) �
 key_put held h k r =
     let v = record_bytes (key_record k) in
     let within = key_within k.wide in
-    let size = record-length (key_record k) (key_shaped k r.eight) in
-    rw (key_laid held v h (75 - length v) (omega (arith, size, within)), key_body k, by_parts held h)
+    let size = record-length (key_record k) (key_shaped k r.eight) ∙ ap record_length (key_kind_of k) in
+    rw (key_laid held v h (75 - length v) (omega (arith, size, within)), key_kind_of k, key_body k, by_parts held h)
     (key_held k r k.wide (part kind.Key held) _ (part kind.Variant held) (part kind.Entry held) refl)
 
 -- What was read, applied to held bytes and to the values that they stand for.
 module _ (held b : List ℕ) (room : ℕ) (w : Bytes b) (h : length held ≡ held_length) where
-  abbrev Stands : Reading → Type 0
+  abbrev Stands : Result Reading Refusal → Type 0
   Stands x =
-      held_of (after (applied_number (held_of held) b room) (held_with x.found.kind b held) held)
-      ≡ held_after (apply_read x.answer x.found (held_of held) room) x.found (held_of held)
+      held_of (after (applied_number (held_of held) b room) (held_with (kind_of (found x)) b held) held) ≡ records.held_with x (held_of held)
 
-  refusal_stands : (c : Refusal) → record_number b ≡ number_of c → Stands (refused c)
-  unfolding apply_read applied_number
+  refusal_stands : (c : Refusal) → record_number b ≡ number_of c → Stands (Err c)
   refusal_stands c n = rw (n, ne_eqb (number_of c) 0 (not_zero c), ne_eqb (number_of c) 0 (not_zero c))
 
   -- a key of either kind is no emit record; its bytes are laid over the front, and it is held
-  flags_free : (wide : Bool) (r : Record) → Free (key_kind wide) r → stage_flags_bad r.key.stages ≡ false
-  flags_free true r f = f
-  flags_free false r f = f
+  free_key : (k : Key) → Free (key_record k) → stage_flags_bad k.stages ≡ false
+  free_key k = go k.wide
+    where
+      go : (wide : Bool) → Free (cond wide (rec.WideKey k) (rec.Key k)) → stage_flags_bad k.stages ≡ false
+      go true f = f
+      go false f = f
+
+  eight_stages : (k : Key) → Shaped (key_record k) → length k.stages ≡ 8
+  eight_stages k = go k.wide
+    where
+      go : (wide : Bool) → Shaped (cond wide (rec.WideKey k) (rec.Key k)) → length k.stages ≡ 8
+      go true f = f
+      go false f = f
 
   no_emit : (wide : Bool) (n : ℕ) → cond (eqb (kind_byte (key_kind wide)) (kind_byte kind.Emit)) n 0 ≡ 0
   no_emit true n = refl
@@ -197,66 +200,57 @@ module _ (held b : List ℕ) (room : ℕ) (w : Bytes b) (h : length held ≡ hel
   over_front true = refl
   over_front false = refl
 
-  key_holds : (k : Key) (wide : Bool) (n : ℕ) → k.wide ≡ wide
-      → held_after (apply_as (key_kind k.wide) n (held_of held) room) (key_record k) (held_of held) ≡ holding_key k (held_of held)
-  unfolding apply_as holding
-  key_holds k true n e = rw e
-  key_holds k false n e = rw e
+  key_holds : (k : Key) (wide : Bool) → holding (cond wide (rec.WideKey k) (rec.Key k)) (held_of held) ≡ holding_key k (held_of held)
+  key_holds k true = refl
+  key_holds k false = refl
 
   key_stands : (k : Key) → wide_stages k ≡ k.stages → Taken b (key_record k) → Stands (took (key_record k))
-  unfolding apply_read applied_number
   key_stands k e t =
-      let r : Recordable k = record { eight = t.shaped.stages; free = flags_free k.wide (key_record k) t.free; settled = e } in
-      rw (t.number, t.first, no_emit k.wide, over_front k.wide, ← t.bytes w, key_holds k k.wide _ refl) (key_put held h k r)
+      let r : Recordable k = record { eight = eight_stages k t.shaped; free = free_key k t.free; settled = e } in
+      let first = t.first ∙ ap kind_byte (key_kind_of k) in
+      rw (t.number, first, no_emit k.wide, key_kind_of k, over_front k.wide, ← key_kind_of k, ← t.bytes w, key_holds k k.wide) (key_put held h k r)
 
-  variant_stands : (v : Variant) → Taken b (variant_record v) → Stands (took (variant_record v))
-  unfolding apply_read apply_as holding applied_number held_with body_bytes body_number
+  variant_stands : (v : Variant) → Taken b (rec.Variant v) → Stands (took (rec.Variant v))
+  unfolding held_with body_bytes body_number
   variant_stands v t =
-      let whole : length (record_bytes (variant_record v)) + 0 ≡ 20 = omega (arith, record-length (variant_record v) t.shaped) in
+      let whole : length (record_bytes (rec.Variant v)) + 0 ≡ 20 = omega (arith, record-length (rec.Variant v) t.shaped) in
       rw (
         t.number,
         t.first,
         ← t.bytes w,
-        variant_laid held (record_bytes (variant_record v)) h 0 whole,
+        variant_laid held (record_bytes (rec.Variant v)) h 0 whole,
         by_parts held h,
         variant_back v,
         t.free,
       )
 
-  entry_stands : (e : Entry) → Taken b (entry_record e) → Stands (took (entry_record e))
-  unfolding apply_read apply_as holding applied_number held_with body_bytes body_number
+  entry_stands : (e : Entry) → Taken b (rec.Entry e) → Stands (took (rec.Entry e))
+  unfolding held_with body_bytes body_number
   entry_stands e t =
-      let whole : length (record_bytes (entry_record e)) + 0 ≡ 34 = omega (arith, record-length (entry_record e) t.shaped) in
+      let whole : length (record_bytes (rec.Entry e)) + 0 ≡ 34 = omega (arith, record-length (rec.Entry e) t.shaped) in
       rw (
         t.number,
         t.first,
         ← t.bytes w,
-        entry_laid held (record_bytes (entry_record e)) h 0 whole,
+        entry_laid held (record_bytes (rec.Entry e)) h 0 whole,
         by_parts held h,
-        entry_back e [] t.shaped.name,
+        entry_back e [] t.shaped,
         t.free.0,
         t.free.1,
       )
 
-  kept : (t : Bool) (n : ℕ) (a : Answer) (r : Record) (x : Held) → x ≡ held_after (cond t (emission_answer n a) (Refused EmitTooEarly)) r x
-  kept true n (answer.Text m) r x = refl
-  kept true n (answer.Refused c) r x = refl
-  kept false n a r x = refl
+  emit_stands : Stands (took rec.Emit)
+  unfolding held_with
+  emit_stands = ap held_of (sym (either_way (eqb (applied_number (held_of held) b room) 0) held))
 
-  emit_stands : Stands (took emit_record)
-  unfolding apply_read apply_as held_with
-  emit_stands =
-      ap held_of (sym (either_way (eqb (applied_number (held_of held) b room) 0) held))
-      ∙ kept (holds_all (held_of held)) _ (answer_of (held_of held).key (held_of held).variant (held_of held).entry room) emit_record (held_of held)
-
-  state_stands : (s : StateWrite) → Taken b (state_record s) → Stands (took (state_record s))
-  unfolding apply_read apply_as holding applied_number held_with
+  state_stands : (s : StateWrite) → Taken b (rec.State s) → Stands (took (rec.State s))
+  unfolding held_with
   state_stands s t =
       rw (t.number, t.first, state_in b s w t)
       (key_put held h (altered held s) (altered_recordable held s))
 
   -- The values of the held bytes behind a record are those that `records::apply` holds behind it.
-  pub held_stands : held_of (after (applied_number (held_of held) b room) (held_with (kind_in b) b held) held) ≡ (applied (held_of held) b room).held
+  pub held_stands : held_of (after (applied_number (held_of held) b room) (held_with (kind_in b) b held) held) ≡ held_after (held_of held) b
   held_stands =
       read_cases Stands b
       (record { refusal = refusal_stands; key = key_stands; variant = variant_stands; entry = entry_stands; emit = λ t. emit_stands; state = state_stands })

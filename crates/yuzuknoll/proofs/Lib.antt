@@ -1,7 +1,7 @@
 mod Lent
 mod Checking
-mod Raw
 mod Emitting
+mod Raw
 pub mod Records
 mod Applying
 mod Altering

@@ -16,8 +16,11 @@ use Rattle.cascade.specs.Effective.{effective_stages, any_of_three}
 use Rattle.cascade.proofs.Narrowing.{effective_alike}
 use Rattle.shader.specs.Results.{text_of, emitted_of}
 use Rattle.shader.proofs.Narrow.{kind_one_text, kind_one_emitted}
-use Rattle.emission.proofs.InPlace.{InPlace}
+use Rattle.emission.proofs.InPlace.{InPlace, takes_place}
+use Rattle.values.specs.Admitted.{Admitted}
+use Rattle.yuzuknoll.proofs.Emitting.{Emits, placed_emits}
 use Rattle.wire.specs.Bodies.{stages_from_bytes, key_from_body}
+use Rattle.yuzuknoll.specs.Emitting.{key_read}
 use Rattle.inspection.specs.Raw.{raw_stages, raw_key, any_byte_of_three}
 
 neither_of : (a b : Bool) → (a || b) ≡ false → (a ≡ false) × (b ≡ false)
@@ -26,11 +29,11 @@ neither_of false b e = (refl, e)
 
 -- with the default for its arguments 0 it is the key that the bytes stand for
 narrow_raw : (b : List ℕ) → narrow (raw_key b) ≡ key_from_body false b
-unfolding raw_key key_from_body stages_from_bytes
+unfolding raw_key raw_stages key_from_body stages_from_bytes
 narrow_raw b = simp get_or-drop
 
 raw_flags : (b : List ℕ) → stage_flags_bad (raw_key b).stages ≡ stage_flags_bad (key_from_body false b).stages
-unfolding raw_key key_from_body stages_from_bytes stage_flags_bad
+unfolding raw_key raw_stages key_from_body stages_from_bytes stage_flags_bad
 raw_flags b = simp get_or-drop
 
 -- where no byte is one of an op of three operands, no op is
@@ -40,8 +43,8 @@ none [] h i = refl
 none (x ∷ r) h zero = (neither_of (three_operands x) _ h).0
 none (x ∷ r) h (suc i) = none r (neither_of (three_operands x) _ h).1 i
 
-no_op_of_three : (b : List ℕ) → any_byte_of_three (take 56 b) ≡ false → any_of_three (raw_stages b) ≡ false
-unfolding any_of_three
+no_op_of_three : (b : List ℕ) → any_byte_of_three (take 56 b) ≡ false → any_of_three (raw_stages 8 b) ≡ false
+unfolding any_of_three raw_stages
 no_op_of_three b h =
     let at : (i : ℕ) → i < 56 → three_operands (get_or b i 0) ≡ false = λ i l. ap three_operands (sym (get_or-take 56 b i 0 l)) ∙ none (take 56 b) h i in
     simp (
@@ -70,7 +73,7 @@ raw_kind : (b : List ℕ) → (raw_key b).wide ≡ false
 unfolding raw_key
 raw_kind b = refl
 
-raw_alike : (b : List ℕ) → any_of_three (raw_stages b) ≡ false → effective_stages (raw_key b) ≡ (raw_key b).stages
+raw_alike : (b : List ℕ) → any_of_three (raw_stages 8 b) ≡ false → effective_stages (raw_key b) ≡ (raw_key b).stages
 unfolding raw_key
 raw_alike b h = effective_alike (raw_key b) refl h
 
@@ -87,3 +90,17 @@ module _ (b : List ℕ) (v : Variant) (e : Entry) where
   pub wide_in_place : InPlace (key_from_body true b) (key_from_body true b) v e
   unfolding effective_stages key_from_body
   wide_in_place = record { as_it_is = refl; same_flags = refl; same_text = refl; same_emitted = refl }
+
+  -- so is the key that was read first, where it has no op of three operands
+  pub read_in_place : (wide : Bool) → (wide ≡ false → any_byte_of_three (take 56 b) ≡ false) → InPlace (key_read wide b) (key_from_body wide b) v e
+  read_in_place true h = wide_in_place
+  read_in_place false h = raw_in_place (h refl)
+
+-- The key that was read of a body is emitted in the place of the body's.
+module _ {wide : Bool} {key : Key} (b : List ℕ) (q : key ≡ key_read wide b) (h : wide ≡ false → any_byte_of_three (take 56 b) ≡ false) (v : Variant) (e : Entry)
+  where
+    pub read_takes_place : Admitted (key_from_body wide b) v e → (effective_stages key ≡ key.stages) × Admitted key v e
+    read_takes_place = takes_place (read_in_place b v e wide h) q
+
+    pub read_emits : (out res : List ℕ) {n : ℕ} {out' res' : List ℕ} → Emits key v e out res n out' res' → Emits (key_from_body wide b) v e out res n out' res'
+    read_emits out res = placed_emits (read_in_place b v e wide h) out res q

@@ -14,23 +14,26 @@ use Rattle.values.specs.declared.Key.{Key}
 use Rattle.values.specs.declared.StateWrite.{StateWrite}
 use Rattle.states.specs.Writes.{accepted, any_widens, checked_write, state_write_number, write_applied, writes_applied}
 use Rattle.states.specs.Rearranging.{MayChangePlaces}
-use Rattle.states.specs.declared.Checked.{Checked}
+use Rattle.std.specs.Prelude.{Result}
+use Rattle.values.specs.declared.Refusal.{Refusal}
 use Rattle.states.proofs.Accepted.{check_cases}
 use Rattle.states.proofs.LastWritten.{all_kept, kind_written}
 use Rattle.states.proofs.SameLast.{SameLast, same_key}
 use Rattle.states.proofs.Rearranged.{by_last}
-use Rattle.wire.specs.Bodies.{body_bytes, key_kind, record_bytes, record_length}
-use Rattle.wire.specs.Values.{key_record, state_record}
-use Rattle.wire.specs.Reading.{body_number, record_number, took_if}
+use Rattle.wire.specs.Bodies.{body_bytes, kind_of, key_kind, record_bytes, record_length}
+use Rattle.wire.specs.Steps.{◌>>=◌}
+use Rattle.wire.specs.Values.{key_record}
+use Rattle.wire.specs.Reading.{took, body_number, record_number}
 use Rattle.wire.specs.declared.Reading.{Reading}
-use Rattle.wire.proofs.Bodies.{key_shaped, record-length, state_back}
+use Rattle.wire.specs.declared.Record.TheVariants as rec
+use Rattle.wire.proofs.Bodies.{key_kind_of, key_shaped, record-length, state_back}
 use Rattle.records.specs.Applying.{applied_number, key_or_defaults}
-use Rattle.records.proofs.Writes.{any_accepted, read_write}
-use Rattle.records.proofs.Rearranged.{none_done, same_accepted}
+use Rattle.records.proofs.Writes.{any_accepted, none_done, read_write}
+use Rattle.records.proofs.Rearranged.{same_accepted}
 use Rattle.yuzuknoll.specs.Lent.{after}
-use Rattle.yuzuknoll.specs.Records.{kind_in}
+use Rattle.yuzuknoll.specs.Records.{found, kind_in}
 use Rattle.yuzuknoll.specs.Applying.{held_length, held_of, held_with}
-use Rattle.yuzuknoll.proofs.Lent.{not_zero}
+use Rattle.inspection.proofs.Numbers.{not_zero}
 use Rattle.yuzuknoll.proofs.Applying.{key_within}
 use Rattle.yuzuknoll.proofs.Altering.{altered, altered_recordable, before_recordable}
 use Rattle.yuzuknoll.proofs.Held.{drop-sets, key_put}
@@ -42,7 +45,7 @@ bytes_after b room held = after (applied_number (held_of held) b room) (held_wit
 -- those behind the records of a list of writes, each given by itself, the first of the list first
 unfoldable pub bytes_behind : List StateWrite → ℕ → List ℕ → List ℕ
 bytes_behind [] room held = held
-bytes_behind (w ∷ r) room held = bytes_behind r room (bytes_after (record_bytes (state_record w)) room held)
+bytes_behind (w ∷ r) room held = bytes_behind r room (bytes_after (record_bytes (rec.State w)) room held)
 
 -- held bytes with the record of a key over their front
 abbrev over : Key → List ℕ → List ℕ
@@ -57,20 +60,20 @@ zero_or n = go (eqb n 0) refl
     go true e = sym (eqb-true n 0 e)
     go false e = refl
 
-write_number_lem : (w : StateWrite) (room : ℕ) (held : List ℕ) → applied_number (held_of held) (record_bytes (state_record w)) room ≡ state_write_number w
-unfolding applied_number record_number body_number body_bytes
+write_number_lem : (w : StateWrite) (room : ℕ) (held : List ℕ) → applied_number (held_of held) (record_bytes (rec.State w)) room ≡ state_write_number w
+unfolding record_number body_number body_bytes
 write_number_lem w room held = rw (state_back w []) (zero_or (state_write_number w))
 
 one_bytes : (w : StateWrite) (room : ℕ) (held : List ℕ)
-    → bytes_after (record_bytes (state_record w)) room held ≡ cond (accepted w) (over (altered held w) held) held
+    → bytes_after (record_bytes (rec.State w)) room held ≡ cond (accepted w) (over (altered held w) held) held
 unfolding held_with body_bytes
 one_bytes w room held =
-    let b = record_bytes (state_record w) in
-    ap (λ (x : Reading). after (applied_number (held_of held) b room) (held_with x.found.kind b held) held) (read_write w)
-    ∙ ap (λ (n : ℕ). after n (held_with (took_if (checked_write w) w).found.kind b held) held) (write_number_lem w room held)
+    let b = record_bytes (rec.State w) in
+    ap (λ (x : Result Reading Refusal). after (applied_number (held_of held) b room) (held_with (kind_of (found x)) b held) held) (read_write w)
+    ∙ ap (λ (n : ℕ). after n (held_with (kind_of (found (checked_write w >>= λ _. took (rec.State w)))) b held) held) (write_number_lem w room held)
     ∙ check_cases
-    (λ (a : Bool) (n : ℕ) (c : Checked).
-    after n (held_with (took_if c w).found.kind (record_bytes (state_record w)) held) held ≡ cond a (over (altered held w) held) held)
+    (λ (a : Bool) (n : ℕ) (c : Result (Unit {0}) Refusal).
+    after n (held_with (kind_of (found (c >>= λ _. took (rec.State w)))) (record_bytes (rec.State w)) held) held ≡ cond a (over (altered held w) held) held)
     w (λ c. rw (ne_eqb (number_of c) 0 (not_zero c))) (λ _. rw (state_back w []))
 
 -- bytes laid over the front of others, at least as many as were laid there before
@@ -100,8 +103,9 @@ module _ (w : StateWrite) (r : List StateWrite) (held : List ℕ) (h : length he
 
   covered : over last (over made held) ≡ over last held
   covered =
-      let first = record-length (key_record made) (key_shaped made made_eight) in
-      let second = record-length (key_record last) (key_shaped last ((all_kept r made made_eight).stages ∙ made_eight)) in
+      let first = record-length (key_record made) (key_shaped made made_eight) ∙ ap record_length (key_kind_of made) in
+      let eight = (all_kept r made made_eight).stages ∙ made_eight in
+      let second = record-length (key_record last) (key_shaped last eight) ∙ ap record_length (key_kind_of last) in
       let longer : record_length (key_kind made.wide) ≤ record_length (key_kind last.wide) =
       rw (kind_written r made) (no_shorter made.wide (any_widens r)) in
       let within = key_within last.wide in

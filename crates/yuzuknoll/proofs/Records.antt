@@ -16,27 +16,28 @@ use Rattle.wire.specs.Bodies.{record_length}
 use Rattle.wire.specs.Reading.{read_record, record_number}
 use Rattle.wire.specs.Writing.{value_number}
 use Rattle.wire.specs.declared.Kind.{Kind}
-use Rattle.wire.specs.declared.Kind.TheVariants as kind
 use Rattle.wire.specs.declared.Record.{Record}
+use Rattle.wire.specs.declared.Record.TheVariants as rec
 use Rattle.wire.proofs.Bodies.{Bytes, Free}
 use Rattle.yuzuknoll.specs.Lent.{after, at_front, record_numbers}
-use Rattle.yuzuknoll.specs.Records.{kind_in, bytes_in, copy_number}
-use Rattle.yuzuknoll.proofs.Lent.{not_zero, left, first_refused, first_passed}
+use Rattle.yuzuknoll.specs.Records.{found, kind_in, bytes_in, copy_number}
+use Rattle.inspection.proofs.Numbers.{not_zero}
+use Rattle.yuzuknoll.proofs.Lent.{left, first_refused, first_passed}
 use Rattle.yuzuknoll.proofs.Checking.{taken}
 
 -- a record without a cause of its own is refused for want of room alone
-free_number : (k : Kind) (r : Record) (n : ℕ) → Free k r → value_number k r n ≡ n
+free_number : (r : Record) (n : ℕ) → Free r → value_number r n ≡ n
 unfolding value_number
-free_number kind.Key r n f = rw f
-free_number kind.Variant r n f = rw f
-free_number kind.Entry r n f = rw (f.0, f.1)
-free_number kind.Emit r n f = refl
-free_number kind.State r n f = rw f
-free_number kind.WideKey r n f = rw f
+free_number (rec.Key k) n f = rw f
+free_number (rec.Variant v) n f = rw f
+free_number (rec.Entry e) n f = rw (f.0, f.1)
+free_number rec.Emit n f = refl
+free_number (rec.State w) n f = rw f
+free_number (rec.WideKey k) n f = rw f
 
 module _ (b : List ℕ) (z : record_number b ≡ 0) where
   copy_number_lem : (room : ℕ) → cond (ltb room (record_length (kind_in b))) 8 0 ≡ copy_number b room
-  copy_number_lem room = first_passed refl z (sym (free_number (kind_in b) (read_record b).found _ (taken b z).free))
+  copy_number_lem room = first_passed refl z (sym (free_number (found (read_record b)) _ (taken b z).free))
 
   pub bytes_taken : Bytes b → bytes_in b ≡ take (record_length (kind_in b)) b
   bytes_taken w = (taken b z).bytes w
@@ -54,15 +55,15 @@ copied b out n w z e h = (
 )
 
 -- what yuzuknoll_write promises: its number, the buffer and the numbers that it leaves
-module _ (b out rec : List ℕ) where
+module _ (b out old : List ℕ) where
   abbrev Writes : ℕ → List ℕ → List ℕ → Type 0
   Writes n out' rec' =
-      (n ≡ copy_number b (length out)) × ((out' ≡ after n (at_front (bytes_in b) out) out) × (rec' ≡ after n (record_numbers (kind_in b)) rec))
+      (n ≡ copy_number b (length out)) × ((out' ≡ after n (at_front (bytes_in b) out) out) × (rec' ≡ after n (record_numbers (kind_in b)) old))
 
-  refused : {n : ℕ} → n ≡ copy_number b (length out) → (n ≡ 0 → ⊥) → Writes n out rec
-  refused q h = (q, (left _ out h, left _ rec h))
+  refused : {n : ℕ} → n ≡ copy_number b (length out) → (n ≡ 0 → ⊥) → Writes n out old
+  refused q h = (q, (left _ out h, left _ old h))
 
-  pub write_refused : {n : ℕ} → n ≡ record_number b → (n ≡ 0 → ⊥) → Writes n out rec
+  pub write_refused : {n : ℕ} → n ≡ record_number b → (n ≡ 0 → ⊥) → Writes n out old
   write_refused q h = refused (first_refused _ q h) h
 
   module _ (z : record_number b ≡ 0) {k : Kind} (g : k ≡ kind_in b) {n : ℕ} (l : n ≡ record_length k) where
@@ -72,8 +73,8 @@ module _ (b out rec : List ℕ) where
     over : length out < n → copy_number b (length out) ≡ 8
     over h = sym (copy_number_lem b z (length out)) ∙ rw (lt-ltb (length out) (record_length (kind_in b)) (omega (arith, size)))
 
-    pub write_over : {m : ℕ} → length out < n → m ≡ 8 → Writes m out rec
-    write_over h q = refused (q ∙ sym (over h)) (λ e. not_zero NoRoom (sym q ∙ e))
+    pub write_over : length out < n → Writes 8 out old
+    write_over h = refused (sym (over h)) (not_zero NoRoom)
 
     pub write_copied : {at : ℕ} {out' rec' : List ℕ} → Bytes b → n ≤ length out → Wrote out 0 out' at (raw (take n b)) → rec' ≡ record_numbers k →
         Writes 0 out' rec'

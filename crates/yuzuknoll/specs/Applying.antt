@@ -1,8 +1,8 @@
 -- The held key, variant and entry as bytes, and a record applied to them: what yuzuknoll_apply holds, writes and reports. Its number is `applied_number`
 -- of records/specs/Applying, for the values that the held bytes stand for.
-use Rattle.std.specs.Prelude.{ℕ, ◌+◌, Bool, ◌&&◌, List, [], ◌++◌, eqb, take, drop, get_or, replicate}
+use Rattle.std.specs.Prelude.{ℕ, ◌+◌, Bool, ◌&&◌, cond, List, [], ◌++◌, eqb, take, drop, get_or, replicate, Option, Some, None}
 use Rattle.std.proofs.lemmas.List.Edits.{sets}
-use Rattle.shader.specs.Results.{emitted_of, text_of}
+use Rattle.shader.specs.Results.{emitted_of}
 use Rattle.values.specs.declared.StateWrite.{StateWrite}
 use Rattle.states.specs.Writes.{write_applied}
 use Rattle.wire.specs.Bodies.{kind_byte, key_kind, record_length, record_bytes, key_from_body, variant_from_body, entry_from_body, state_from_body}
@@ -10,9 +10,9 @@ use Rattle.wire.specs.Values.{key_record}
 use Rattle.wire.specs.Reading.{body_number}
 use Rattle.wire.specs.declared.Kind.{Kind}
 use Rattle.wire.specs.declared.Kind.TheVariants as kind
-use Rattle.records.specs.Applying.{key_or_defaults}
+use Rattle.records.specs.Applying.{Values, HeldDemands, all_held, key_or_defaults, text_in}
 use Rattle.records.specs.declared.Held.{Held}
-use Rattle.yuzuknoll.specs.Lent.{at_front, record_numbers, result_numbers}
+use Rattle.yuzuknoll.specs.Lent.{record_numbers, result_numbers, result_of}
 
 -- What is held.
 
@@ -52,15 +52,17 @@ abbrev pub held_wide : List ℕ → Bool
 held_wide held = eqb (held_byte kind.Key held) (kind_byte kind.WideKey)
 
 -- the values that held bytes stand for
+abbrev pub held_if : {A : Type 0} → Bool → A → Option A
+held_if good x = cond good (Some x) None
+
 unfoldable pub held_of : List ℕ → Held
 held_of held =
     record {
-      has_key = is_record (key_kind (held_wide held)) (held_byte kind.Key held) (held_body kind.Key held);
-      key = key_from_body (held_wide held) (held_body kind.Key held);
-      has_variant = is_record kind.Variant (held_byte kind.Variant held) (held_body kind.Variant held);
-      variant = variant_from_body (held_body kind.Variant held);
-      has_entry = is_record kind.Entry (held_byte kind.Entry held) (held_body kind.Entry held);
-      entry = entry_from_body (held_body kind.Entry held);
+      key =
+          held_if (is_record (key_kind (held_wide held)) (held_byte kind.Key held) (held_body kind.Key held))
+          (key_from_body (held_wide held) (held_body kind.Key held));
+      variant = held_if (is_record kind.Variant (held_byte kind.Variant held) (held_body kind.Variant held)) (variant_from_body (held_body kind.Variant held));
+      entry = held_if (is_record kind.Entry (held_byte kind.Entry held) (held_body kind.Entry held)) (entry_from_body (held_body kind.Entry held));
     }
 
 -- A record of a kind, applied.
@@ -93,14 +95,22 @@ held_with k b held = on_emit k held (sets held (place_of k) (part_with k b held)
 
 -- the text of the held values begins the buffer
 unfoldable pub text_with : Kind → Held → List ℕ → List ℕ
-text_with k h out = on_emit k (at_front (text_of h.key h.variant h.entry) out) out
+text_with k h out = on_emit k (text_in (all_held h) out) out
 
 -- the text's result, 0 in its place where there is none
 abbrev pub no_result : List ℕ
 no_result = replicate 8 0
 
+abbrev pub result_in : Option Values → List ℕ
+result_in None = no_result
+result_in (Some x) = result_numbers (emitted_of x.key x.variant x.entry)
+
 unfoldable pub result_with : Kind → Held → List ℕ
-result_with k h = on_emit k (result_numbers (emitted_of h.key h.variant h.entry)) no_result
+result_with k h = on_emit k (result_in (all_held h)) no_result
+
+-- what is demanded of the names of that text, said of the buffer that it begins and of the eight numbers
+abbrev pub HeldReported : Held → List ℕ → List ℕ → Type 0
+HeldReported h out l = HeldDemands (all_held h) (result_of l) out
 
 abbrev pub applied_numbers : Kind → Held → List ℕ
 applied_numbers k h = record_numbers k ++ result_with k h

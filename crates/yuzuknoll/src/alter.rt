@@ -1,42 +1,36 @@
 //! A state write done to the held key, which is the front of the held bytes.
-ghost use Rattle.std.specs.Prelude.{◌≡◌, true, not, ◌&&◌, ◌||◌, length};
+ghost use Rattle.std.specs.Prelude.{◌≡◌, true, not, ◌&&◌, ◌||◌, is_some};
 ghost use Rattle.std.proofs.lemmas.List.Edits.{sets};
 ghost use Rattle.records.specs.Applying.{key_or_defaults};
 ghost use Rattle.states.specs.Types.{sets_arg0};
 ghost use Rattle.states.specs.Writes.{accepted};
-ghost use Rattle.yuzuknoll.specs.Applying.{altered_record, held_length, held_of, held_wide};
+ghost use Rattle.yuzuknoll.specs.Applying.{altered_record, held_of, held_wide};
 
-use crate::parts::{KEY_BODY, KEY_PLACE, VARIANT_PLACE, held_key, holds_key};
+use crate::parts::{HELD_LENGTH, KEY_BODY, KEY_PLACE, VARIANT_PLACE, held_key, holds_key};
 use states::{defaults, set, sets_arg0};
 use values::{Key, StateWrite};
-use wire::KIND_WIDE_KEY;
 use wire::alter::alter;
-use wire::make::key_record;
 use wire::writer::write;
+use wire::{KIND_WIDE_KEY, key_record};
 
 // A key is held, and a write of this type leaves its kind. Such a write changes one stage of the held key and no other byte.
-fn alters_there(held: &[u8], state: u8) -> bool
-    requires { length held.now ≡ held_length }
-    ensures { result ≡ ((held_of held.now).has_key && (held_wide held.now || not (sets_arg0 state))) }
+fn alters_there(held: &[u8; HELD_LENGTH], state: u8) -> bool
+    ensures { result ≡ (is_some (held_of held.now).key && (held_wide held.now || not (sets_arg0 state))) }
 {
     let wide = held[KEY_PLACE] == KIND_WIDE_KEY;
     holds_key(held) & (wide | !sets_arg0(state))
 }
 
 // The key that a state write alters.
-fn key_or_defaults(held: &[u8]) -> Key
-    requires { length held.now ≡ held_length }
+fn key_or_defaults(held: &[u8; HELD_LENGTH]) -> Key
     ensures { result ≡ key_or_defaults (held_of held.now) }
 {
-    if holds_key(held) {
-        return held_key(held);
-    }
-    defaults()
+    held_key(held).unwrap_or_else(defaults)
 }
 
 // A write that leaves the kind of a held key is done where the key lies. Any other leaves the record of the altered key.
-pub(crate) fn alter_held(held: &mut [u8], made: StateWrite)
-    requires { (length held.old ≡ held_length) × (accepted made ≡ true) }
+pub(crate) fn alter_held(held: &mut [u8; HELD_LENGTH], made: StateWrite)
+    requires { accepted made ≡ true }
     ensures { held.new ≡ sets held.old 0 (altered_record made held.old) }
 {
     if alters_there(held, made.state) {
@@ -45,5 +39,5 @@ pub(crate) fn alter_held(held: &mut [u8], made: StateWrite)
         return;
     }
     let after = set(key_or_defaults(held), made);
-    write(key_record(after), held);
+    let _ = write(key_record(after), held);
 }

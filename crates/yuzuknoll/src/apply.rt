@@ -1,117 +1,114 @@
 //! The record at the front of some bytes, applied to the held key, variant and entry, which the caller keeps as the bytes of their records.
-ghost use Rattle.std.specs.Prelude.{◌+◌, ◌≤◌, ◌≡◌, true, ◌++◌, drop, length, take};
+ghost use Rattle.std.specs.Prelude.{◌+◌, ◌≤◌, ◌≡◌, ◌++◌, drop, length, take};
 ghost use Rattle.std.proofs.lemmas.List.Edits.{sets};
 ghost use Rattle.records.specs.Applying.{applied_number, emit_number};
-ghost use Rattle.states.specs.Writes.{accepted};
-ghost use Rattle.wire.specs.Bodies.{record_length, state_from_body};
-ghost use Rattle.yuzuknoll.specs.Lent.{ReportedDemands, after, record_numbers};
+ghost use Rattle.values.specs.Refusals.{number_in};
+ghost use Rattle.wire.specs.Bodies.{record_length};
+ghost use Rattle.wire.specs.Reading.{record_number};
+ghost use Rattle.yuzuknoll.specs.Lent.{after, record_numbers};
 ghost use Rattle.yuzuknoll.specs.Records.{kind_in};
-ghost use Rattle.yuzuknoll.specs.Applying.{applied_numbers, held_length, held_of, held_with, no_result, place_of, result_with, text_with};
+ghost use Rattle.yuzuknoll.specs.Applying.{HeldReported, applied_numbers, held_length, held_of, held_with, no_result, on_emit, place_of, result_with, text_with};
 
 use crate::alter::alter_held;
-use crate::emit::{RESULT_LENGTH, emit_rewritten, emit_values};
+use crate::emit::{RESULT_LENGTH, emit_read, read_key};
 use crate::parts::{
     ENTRY_BODY, ENTRY_PLACE, HELD_LENGTH, KEY_BODY, KEY_PLACE, VARIANT_BODY, VARIANT_PLACE,
     holds_all, place_of,
 };
-use crate::read::kind_in;
-use inspection::causes::record_number;
-use inspection::keys::{any_byte_of_three, raw_key};
-use inspection::{ACCEPTED, refuse};
+use inspection::causes::record_kind;
 use text::put;
-use values::Refusal;
-use wire::reader::{entry_from_body, state_from_body, variant_from_body, wide_key};
-use wire::{KIND_WIDE_KEY, Kind, kind_byte, record_length};
+use values::{Refusal, number};
+use wire::reader::{entry_from_body, state_from_body, variant_from_body};
+use wire::{KIND_WIDE_KEY, Kind, record_length};
 
 // A record's kind and length, and a result.
 const APPLIED_LENGTH: usize = 10;
 
 // Emission from the held values. A key of kind 1 is read first, as in yuzuknoll_emit.
-fn emit_held(held: &[u8], text: &mut [u8], res: &mut [u64; RESULT_LENGTH]) -> u64
-    requires { length held.now ≡ held_length }
-    ensures number { result ≡ emit_number (held_of held.now) (length text.old) }
-    ensures text { text.new ≡ after result (text_with Kind.Emit (held_of held.now) text.old) text.old }
-    ensures res { res.new ≡ after result (result_with Kind.Emit (held_of held.now)) res.old }
-    ensures names { result ≡ 0 → ReportedDemands (held_of held.now).key text.new res.new }
+fn emit_held(
+    held: &[u8; HELD_LENGTH],
+    text: &mut [u8],
+    res: &mut [u64; RESULT_LENGTH],
+) -> Result<(), Refusal>
+    ensures number { number_in result ≡ emit_number (held_of held.now) (length text.old) }
+    ensures text { text.new ≡ after (number_in result) (text_with Kind.Emit (held_of held.now) text.old) text.old }
+    ensures res { res.new ≡ after (number_in result) (result_with Kind.Emit (held_of held.now)) res.old }
+    ensures names { number_in result ≡ 0 → HeldReported (held_of held.now) text.new res.new }
 {
-    let raw = raw_key(&held[KEY_BODY..VARIANT_PLACE]);
+    let body = &held[KEY_BODY..VARIANT_PLACE];
+    let key = read_key::<false>(body);
     if !holds_all(held) {
-        return refuse(Refusal::EmitTooEarly);
+        return Err(Refusal::EmitTooEarly);
     }
     let variant = variant_from_body(&held[VARIANT_BODY..ENTRY_PLACE]);
     let entry = entry_from_body(&held[ENTRY_BODY..HELD_LENGTH]);
     if held[KEY_PLACE] == KIND_WIDE_KEY {
-        let key = wide_key(&held[KEY_BODY..VARIANT_PLACE]);
-        return emit_values(key, variant, entry, text, res);
+        let wide_key = read_key::<true>(body);
+        return emit_read::<true>(wide_key, body, variant, entry, text, res);
     }
-    if any_byte_of_three(&held[KEY_BODY..VARIANT_PLACE]) {
-        return emit_rewritten(&held[KEY_BODY..VARIANT_PLACE], variant, entry, text, res);
+    emit_read::<false>(key, body, variant, entry, text, res)
+}
+
+// A value's record, over its part of the held bytes.
+fn keep_record(kind: Kind, bytes: &[u8], held: &mut [u8; HELD_LENGTH])
+    requires { (place_of kind + record_length kind ≤ held_length) × (record_length kind ≤ length bytes.now) }
+    ensures { held.new ≡ sets held.old (place_of kind) (take (record_length kind) bytes.now) }
+{
+    let n = record_length(kind);
+    put(held, place_of(kind), &bytes[..n]);
+}
+
+// Does what an accepted record of a kind says. A text's result goes to res.
+fn do_record(
+    kind: Kind,
+    held: &mut [u8; HELD_LENGTH],
+    bytes: &[u8],
+    text: &mut [u8],
+    res: &mut [u64; RESULT_LENGTH],
+) -> Result<(), Refusal>
+    requires number { record_number bytes.now ≡ 0 }
+    requires kind { kind ≡ kind_in bytes.now }
+    requires res { res.old ≡ no_result }
+    ensures number { number_in result ≡ on_emit kind (emit_number (held_of held.old) (length text.old)) 0 }
+    ensures held { held.new ≡ after (number_in result) (held_with kind bytes.now held.old) held.old }
+    ensures text { text.new ≡ after (number_in result) (text_with kind (held_of held.old) text.old) text.old }
+    ensures res { res.new ≡ after (number_in result) (result_with kind (held_of held.old)) no_result }
+    ensures names { number_in result ≡ 0 → kind ≡ Kind.Emit → HeldReported (held_of held.old) text.new res.new }
+{
+    match kind {
+        Kind::Emit => return emit_held(held, text, res),
+        Kind::State => alter_held(held, state_from_body(&bytes[1..])),
+        _ => keep_record(kind, bytes, held),
     }
-    emit_values(raw, variant, entry, text, res)
+    Ok(())
 }
 
 fn report_applied(kind: Kind, res: [u64; RESULT_LENGTH], applied: &mut [u64; APPLIED_LENGTH])
     ensures { applied.new ≡ record_numbers kind ++ res }
 {
-    *applied = [
-        kind_byte(kind) as u64,
-        record_length(kind) as u64,
-        res[0],
-        res[1],
-        res[2],
-        res[3],
-        res[4],
-        res[5],
-        res[6],
-        res[7],
-    ];
+    applied[0] = u8::from(kind) as u64;
+    applied[1] = record_length(kind) as u64;
+    applied[2..].copy_from_slice(&res);
 }
 
-// A value's record, over its part of the held bytes.
-fn keep_record(
-    kind: Kind,
+fn apply(
+    held: &mut [u8; HELD_LENGTH],
     bytes: &[u8],
-    held: &mut [u8],
+    text: &mut [u8],
     applied: &mut [u64; APPLIED_LENGTH],
-) -> u64
-    requires { (place_of kind + record_length kind ≤ length held.old) × (record_length kind ≤ length bytes.now) }
-    ensures number { result ≡ 0 }
-    ensures held { held.new ≡ sets held.old (place_of kind) (take (record_length kind) bytes.now) }
-    ensures applied { applied.new ≡ record_numbers kind ++ no_result }
+) -> Result<(), Refusal>
+    ensures number { number_in result ≡ applied_number (held_of held.old) bytes.now (length text.old) }
+    ensures held { held.new ≡ after (number_in result) (held_with (kind_in bytes.now) bytes.now held.old) held.old }
+    ensures text { text.new ≡ after (number_in result) (text_with (kind_in bytes.now) (held_of held.old) text.old) text.old }
+    ensures applied { applied.new ≡ after (number_in result) (applied_numbers (kind_in bytes.now) (held_of held.old)) applied.old }
+    ensures names { number_in result ≡ 0 → kind_in bytes.now ≡ Kind.Emit →
+        HeldReported (held_of held.old) text.new (drop 2 applied.new) }
 {
-    let n = record_length(kind);
-    put(held, place_of(kind), &bytes[..n]);
-    report_applied(kind, [0u64; RESULT_LENGTH], applied);
-    ACCEPTED
-}
-
-// A state write.
-fn alter_key(bytes: &[u8], held: &mut [u8], applied: &mut [u64; APPLIED_LENGTH]) -> u64
-    requires { (length held.old ≡ held_length) × (record_length Kind.State ≤ length bytes.now) × (accepted (state_from_body (drop 1 bytes.now)) ≡ true) }
-    ensures number { result ≡ 0 }
-    ensures held { held.new ≡ held_with Kind.State bytes.now held.old }
-    ensures applied { applied.new ≡ record_numbers Kind.State ++ no_result }
-{
-    alter_held(held, state_from_body(&bytes[1..]));
-    report_applied(Kind::State, [0u64; RESULT_LENGTH], applied);
-    ACCEPTED
-}
-
-// An emit record.
-fn emit_record(held: &[u8], text: &mut [u8], applied: &mut [u64; APPLIED_LENGTH]) -> u64
-    requires { length held.now ≡ held_length }
-    ensures number { result ≡ emit_number (held_of held.now) (length text.old) }
-    ensures text { text.new ≡ after result (text_with Kind.Emit (held_of held.now) text.old) text.old }
-    ensures applied { applied.new ≡ after result (applied_numbers Kind.Emit (held_of held.now)) applied.old }
-    ensures names { result ≡ 0 → ReportedDemands (held_of held.now).key text.new (drop 2 applied.new) }
-{
-    let mut result = [0u64; RESULT_LENGTH];
-    let number = emit_held(held, text, &mut result);
-    if number != ACCEPTED {
-        return number;
-    }
-    report_applied(Kind::Emit, result, applied);
-    ACCEPTED
+    let kind = record_kind(bytes)?;
+    let mut res = [0u64; RESULT_LENGTH];
+    do_record(kind, held, bytes, text, &mut res)?;
+    report_applied(kind, res, applied);
+    Ok(())
 }
 
 // Applies the record at the front of bytes: it is held, or writes the text of what is held to the front of text. Reports its kind and length, and
@@ -128,16 +125,7 @@ pub extern "C" fn yuzuknoll_apply(
     ensures text { text.new ≡ after result (text_with (kind_in bytes.now) (held_of held.old) text.old) text.old }
     ensures applied { applied.new ≡ after result (applied_numbers (kind_in bytes.now) (held_of held.old)) applied.old }
     ensures names { result ≡ 0 → kind_in bytes.now ≡ Kind.Emit →
-        ReportedDemands (held_of held.old).key text.new (drop 2 applied.new) }
+        HeldReported (held_of held.old) text.new (drop 2 applied.new) }
 {
-    let number = record_number(bytes);
-    if number != ACCEPTED {
-        return number;
-    }
-    let kind = kind_in(bytes);
-    match kind {
-        Kind::Emit => emit_record(held, text, applied),
-        Kind::State => alter_key(bytes, held, applied),
-        _ => keep_record(kind, bytes, held, applied),
-    }
+    number(apply(held, bytes, text, applied)) as u64
 }

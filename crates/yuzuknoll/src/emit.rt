@@ -1,21 +1,21 @@
 //! Emission from the bodies of a key, a variant and an entry.
 ghost use Rattle.std.specs.Prelude.{◌≤◌, ◌≡◌, false, true, length};
 ghost use Rattle.values.specs.Admitted.{Admitted};
+ghost use Rattle.values.specs.Refusals.{number_in};
 ghost use Rattle.cascade.specs.Effective.{effective_stages};
 ghost use Rattle.shader.specs.Results.{emission_number, emitted_of, text_of};
-ghost use Rattle.wire.specs.Bodies.{body_length, key_from_body};
+ghost use Rattle.wire.specs.Bodies.{body_length, key_from_body, key_kind};
 ghost use Rattle.wire.specs.Reading.{body_number};
 ghost use Rattle.yuzuknoll.specs.Lent.{ReportedDemands, after, at_front, first_of, result_numbers};
-ghost use Rattle.yuzuknoll.specs.Emitting.{bodies_number, bodies_result, bodies_text};
+ghost use Rattle.yuzuknoll.specs.Emitting.{bodies_number, bodies_result, bodies_text, key_read};
 
 use cascade::effective::effective;
-use emission::{Answer, Emitted, emit_checked};
-use inspection::causes::{entry_number, narrow_key_number, variant_number, wide_key_number};
+use emission::emit_checked;
+use inspection::causes::{entry_cause, key_cause, variant_cause};
 use inspection::keys::{any_byte_of_three, raw_key};
-use inspection::{ACCEPTED, refuse};
-use values::{Entry, Key, Variant};
+use values::{Emitted, Entry, Key, Refusal, Variant, number};
 use wire::Kind;
-use wire::reader::{entry_from_body, narrow_key, variant_from_body, wide_key};
+use wire::reader::{entry_from_body, key_from_body, variant_from_body};
 
 // How many bytes the bodies have.
 const KEY_LENGTH: usize = 58;
@@ -45,63 +45,114 @@ fn report(emitted: Emitted, res: &mut [u64; RESULT_LENGTH])
 }
 
 // From values that are free of the causes 3, 5, 6 and 13, of a key whose stages take effect as they are.
-pub(crate) fn emit_values(
+fn emit_values(
     key: Key,
     variant: Variant,
     entry: Entry,
     text: &mut [u8],
     res: &mut [u64; RESULT_LENGTH],
-) -> u64
+) -> Result<(), Refusal>
     requires { (effective_stages key ≡ key.stages) × Admitted key variant entry }
-    ensures number { result ≡ emission_number key variant entry (length text.old) }
-    ensures text { text.new ≡ after result (at_front (text_of key variant entry) text.old) text.old }
-    ensures res { res.new ≡ after result (result_numbers (emitted_of key variant entry)) res.old }
-    ensures names { result ≡ 0 → ReportedDemands key text.new res.new }
+    ensures number { number_in result ≡ emission_number key variant entry (length text.old) }
+    ensures text { text.new ≡ after (number_in result) (at_front (text_of key variant entry) text.old) text.old }
+    ensures res { res.new ≡ after (number_in result) (result_numbers (emitted_of key variant entry)) res.old }
+    ensures names { number_in result ≡ 0 → ReportedDemands key text.new res.new }
 {
-    match emit_checked(key, variant, entry, text) {
-        Answer::Refused(cause) => refuse(cause),
-        Answer::Text(emitted) => {
-            report(emitted, res);
-            ACCEPTED
-        }
-    }
+    let emitted = emit_checked(key, variant, entry, text)?;
+    report(emitted, res);
+    Ok(())
 }
 
 // From the body of a key of kind 1 that may have ops of three operands. It is a function of its own because few keys have, and what the others need is
 // quicker without it.
-pub(crate) fn emit_rewritten(
+fn emit_rewritten(
     body: &[u8],
     variant: Variant,
     entry: Entry,
     text: &mut [u8],
     res: &mut [u64; RESULT_LENGTH],
-) -> u64
+) -> Result<(), Refusal>
     requires { (body_length Kind.Key ≤ length body.now) × Admitted (key_from_body false body.now) variant entry }
-    ensures number { result ≡ emission_number (key_from_body false body.now) variant entry (length text.old) }
-    ensures text { text.new ≡ after result (at_front (text_of (key_from_body false body.now) variant entry) text.old) text.old }
-    ensures res { res.new ≡ after result (result_numbers (emitted_of (key_from_body false body.now) variant entry)) res.old }
-    ensures names { result ≡ 0 → ReportedDemands (key_from_body false body.now) text.new res.new }
+    ensures number { number_in result ≡ emission_number (key_from_body false body.now) variant entry (length text.old) }
+    ensures text { text.new ≡ after (number_in result) (at_front (text_of (key_from_body false body.now) variant entry) text.old) text.old }
+    ensures res { res.new ≡ after (number_in result) (result_numbers (emitted_of (key_from_body false body.now) variant entry)) res.old }
+    ensures names { number_in result ≡ 0 → ReportedDemands (key_from_body false body.now) text.new res.new }
 {
-    let key = effective(narrow_key(body));
+    let key = effective(key_from_body::<false>(body));
     emit_values(key, variant, entry, text, res)
 }
 
-// The first cause of three bodies: the key's, as its number has it, then the variant's and the entry's.
-fn bodies_cause(key_refused: u64, variant: &[u8; VARIANT_LENGTH], entry: &[u8; ENTRY_LENGTH]) -> u64
-    ensures { result ≡ first_of key_refused (first_of (body_number Kind.Variant variant.now) (body_number Kind.Entry entry.now)) }
+// The key of a body as it is emitted where no op has three operands.
+pub(crate) fn read_key<const WIDE: bool>(body: &[u8]) -> Key
+    requires { body_length (key_kind WIDE) ≤ length body.now }
+    ensures { result ≡ key_read WIDE body.now }
 {
-    if key_refused != ACCEPTED {
-        return key_refused;
+    if WIDE {
+        key_from_body::<true>(body)
+    } else {
+        raw_key(body)
     }
-    let variant_refused = variant_number(variant);
-    if variant_refused != ACCEPTED {
-        return variant_refused;
-    }
-    entry_number(entry)
 }
 
-// Writes the text of a key, a variant and an entry to the front of text, and its length, mask, rows, lookups and warnings to result. The key is read
-// first: its bytes are stored a few at a time, and whoever copies it whole right behind that waits for them.
+// From the body of a key, and the key that was read of it.
+pub(crate) fn emit_read<const WIDE: bool>(
+    key: Key,
+    body: &[u8],
+    variant: Variant,
+    entry: Entry,
+    text: &mut [u8],
+    res: &mut [u64; RESULT_LENGTH],
+) -> Result<(), Refusal>
+    requires body { (body_length (key_kind WIDE) ≤ length body.now) × (key ≡ key_read WIDE body.now) }
+    requires admitted { Admitted (key_from_body WIDE body.now) variant entry }
+    ensures number { number_in result ≡ emission_number (key_from_body WIDE body.now) variant entry (length text.old) }
+    ensures text { text.new ≡ after (number_in result) (at_front (text_of (key_from_body WIDE body.now) variant entry) text.old) text.old }
+    ensures res { res.new ≡ after (number_in result) (result_numbers (emitted_of (key_from_body WIDE body.now) variant entry)) res.old }
+    ensures names { number_in result ≡ 0 → ReportedDemands (key_from_body WIDE body.now) text.new res.new }
+{
+    if !WIDE && any_byte_of_three(body) {
+        return emit_rewritten(body, variant, entry, text, res);
+    }
+    emit_values(key, variant, entry, text, res)
+}
+
+// The first cause of three bodies: the key's, then the variant's and the entry's.
+fn bodies_cause<const WIDE: bool>(
+    key: &[u8],
+    variant: &[u8; VARIANT_LENGTH],
+    entry: &[u8; ENTRY_LENGTH],
+) -> Result<(), Refusal>
+    requires { body_length (key_kind WIDE) ≤ length key.now }
+    ensures { number_in result ≡ first_of (body_number (key_kind WIDE) key.now) (first_of (body_number Kind.Variant variant.now) (body_number Kind.Entry entry.now)) }
+{
+    key_cause::<WIDE>(key)?;
+    variant_cause(variant)?;
+    entry_cause(entry)
+}
+
+// From three bodies. The key is read first: its bytes are stored a few at a time, and whoever copies it whole right behind that waits for them.
+fn emit_bodies<const WIDE: bool>(
+    key: &[u8],
+    variant: &[u8; VARIANT_LENGTH],
+    entry: &[u8; ENTRY_LENGTH],
+    text: &mut [u8],
+    res: &mut [u64; RESULT_LENGTH],
+) -> Result<(), Refusal>
+    requires { body_length (key_kind WIDE) ≤ length key.now }
+    ensures number { number_in result ≡ bodies_number WIDE key.now variant.now entry.now (length text.old) }
+    ensures text { text.new
+        ≡ after (number_in result) (at_front (bodies_text WIDE key.now variant.now entry.now) text.old) text.old }
+    ensures res { res.new ≡ after (number_in result) (bodies_result WIDE key.now variant.now entry.now) res.old }
+    ensures names { number_in result ≡ 0 → ReportedDemands (key_from_body WIDE key.now) text.new res.new }
+{
+    let k = read_key::<WIDE>(key);
+    bodies_cause::<WIDE>(key, variant, entry)?;
+    let v = variant_from_body(variant);
+    let e = entry_from_body(entry);
+    emit_read::<WIDE>(k, key, v, e, text, res)
+}
+
+// Writes the text of a key, a variant and an entry to the front of text, and its length, mask, rows, lookups and warnings to result.
 #[unsafe(no_mangle)]
 pub extern "C" fn yuzuknoll_emit(
     key: &[u8; KEY_LENGTH],
@@ -116,17 +167,7 @@ pub extern "C" fn yuzuknoll_emit(
     ensures res { res.new ≡ after result (bodies_result false key.now variant.now entry.now) res.old }
     ensures names { result ≡ 0 → ReportedDemands (key_from_body false key.now) text.new res.new }
 {
-    let k = raw_key(key);
-    let refused = bodies_cause(narrow_key_number(key), variant, entry);
-    if refused != ACCEPTED {
-        return refused;
-    }
-    let v = variant_from_body(variant);
-    let e = entry_from_body(entry);
-    if any_byte_of_three(key) {
-        return emit_rewritten(key, v, e, text, res);
-    }
-    emit_values(k, v, e, text, res)
+    number(emit_bodies::<false>(key, variant, entry, text, res)) as u64
 }
 
 // The same of a wide key.
@@ -144,12 +185,5 @@ pub extern "C" fn yuzuknoll_emit_wide(
     ensures res { res.new ≡ after result (bodies_result true key.now variant.now entry.now) res.old }
     ensures names { result ≡ 0 → ReportedDemands (key_from_body true key.now) text.new res.new }
 {
-    let k = wide_key(key);
-    let refused = bodies_cause(wide_key_number(key), variant, entry);
-    if refused != ACCEPTED {
-        return refused;
-    }
-    let v = variant_from_body(variant);
-    let e = entry_from_body(entry);
-    emit_values(k, v, e, text, res)
+    number(emit_bodies::<true>(key, variant, entry, text, res)) as u64
 }

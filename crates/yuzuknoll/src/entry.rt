@@ -35,8 +35,7 @@ pub extern "C" fn yuzuknoll_entry_start(state: &mut [u64; 3])
 pub extern "C" fn yuzuknoll_entry_step(state: &mut [u64; 3], byte: u8)
     ensures { state.new ≡ state_of (pass_stepped (pass_of state.old) byte) }
 {
-    let pass = pass_of(state);
-    report(pass.step(byte), state);
+    report(pass_of(state).step(byte), state);
 }
 
 // 1 where some entry's body begins with the bytes taken, else 0.
@@ -44,9 +43,5 @@ pub extern "C" fn yuzuknoll_entry_step(state: &mut [u64; 3], byte: u8)
 pub extern "C" fn yuzuknoll_entry_possible(state: &[u64; 3]) -> u64
     ensures { result ≡ cond (possible_in (pass_of state.now)) 1 0 }
 {
-    let pass = pass_of(state);
-    if pass.is_possible() {
-        return 1;
-    }
-    0
+    u64::from(pass_of(state).is_possible())
 }

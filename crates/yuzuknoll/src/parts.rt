@@ -1,14 +1,13 @@
 //! The parts of the held bytes, and what they hold.
-ghost use Rattle.std.specs.Prelude.{◌≤◌, ◌≡◌, length};
-ghost use Rattle.records.specs.Applying.{holds_all};
+ghost use Rattle.std.specs.Prelude.{◌≤◌, ◌≡◌, is_some, length};
+ghost use Rattle.records.specs.Applying.{all_held};
 ghost use Rattle.wire.specs.Bodies.{body_length};
-ghost use Rattle.yuzuknoll.specs.Applying.{held_length, held_of, is_record, place_of};
+ghost use Rattle.yuzuknoll.specs.Applying.{held_of, is_record, place_of};
 
-use inspection::ACCEPTED;
-use inspection::causes::kind_number;
+use inspection::causes::kind_cause;
 use values::Key;
-use wire::reader::{narrow_key, wide_key};
-use wire::{KIND_WIDE_KEY, Kind, key_kind, kind_byte};
+use wire::reader::key_from_body;
+use wire::{KIND_WIDE_KEY, Kind, key_kind};
 
 // The records of a key, of either kind, a variant and an entry, each a kind byte and a body.
 const KEY_ROOM: usize = 75;
@@ -36,12 +35,10 @@ pub(crate) fn place_of(kind: Kind) -> usize
     ensures { result ≡ place_of kind }
 {
     match kind {
-        Kind::Key => KEY_PLACE,
+        Kind::Key | Kind::State | Kind::WideKey => KEY_PLACE,
         Kind::Variant => VARIANT_PLACE,
         Kind::Entry => ENTRY_PLACE,
         Kind::Emit => HELD_LENGTH,
-        Kind::State => KEY_PLACE,
-        Kind::WideKey => KEY_PLACE,
     }
 }
 
@@ -50,12 +47,11 @@ fn part_held(kind: Kind, byte: u8, body: &[u8]) -> bool
     requires { body_length kind ≤ length body.now }
     ensures { result ≡ is_record kind byte body.now }
 {
-    (byte == kind_byte(kind)) & (kind_number(kind, body) == ACCEPTED)
+    (byte == u8::from(kind)) & kind_cause(kind, body).is_ok()
 }
 
-pub(crate) fn holds_key(held: &[u8]) -> bool
-    requires { length held.now ≡ held_length }
-    ensures { result ≡ (held_of held.now).has_key }
+pub(crate) fn holds_key(held: &[u8; HELD_LENGTH]) -> bool
+    ensures { result ≡ is_some (held_of held.now).key }
 {
     let byte = held[KEY_PLACE];
     part_held(
@@ -65,20 +61,21 @@ pub(crate) fn holds_key(held: &[u8]) -> bool
     )
 }
 
-// The key that the held bytes have if they hold one.
-pub(crate) fn held_key(held: &[u8]) -> Key
-    requires { length held.now ≡ held_length }
+pub(crate) fn held_key(held: &[u8; HELD_LENGTH]) -> Option<Key>
     ensures { result ≡ (held_of held.now).key }
 {
-    if held[KEY_PLACE] == KIND_WIDE_KEY {
-        return wide_key(&held[KEY_BODY..VARIANT_PLACE]);
+    if !holds_key(held) {
+        return None;
     }
-    narrow_key(&held[KEY_BODY..VARIANT_PLACE])
+    let body = &held[KEY_BODY..VARIANT_PLACE];
+    if held[KEY_PLACE] == KIND_WIDE_KEY {
+        return Some(key_from_body::<true>(body));
+    }
+    Some(key_from_body::<false>(body))
 }
 
-pub(crate) fn holds_all(held: &[u8]) -> bool
-    requires { length held.now ≡ held_length }
-    ensures { result ≡ holds_all (held_of held.now) }
+pub(crate) fn holds_all(held: &[u8; HELD_LENGTH]) -> bool
+    ensures { result ≡ is_some (all_held (held_of held.now)) }
 {
     let key = holds_key(held);
     let variant = part_held(

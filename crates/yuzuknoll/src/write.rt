@@ -1,14 +1,29 @@
 //! The record at the front of some bytes, written to the front of a buffer.
 ghost use Rattle.std.specs.Prelude.{◌≡◌, length};
+ghost use Rattle.values.specs.Refusals.{number_in};
 ghost use Rattle.yuzuknoll.specs.Lent.{after, at_front, record_numbers};
 ghost use Rattle.yuzuknoll.specs.Records.{bytes_in, copy_number, kind_in};
 
-use crate::read::{kind_in, report_record};
-use inspection::causes::record_number;
-use inspection::{ACCEPTED, refuse};
+use crate::read::report_record;
+use inspection::causes::record_kind;
 use text::put;
-use values::Refusal;
+use values::{Refusal, number};
 use wire::record_length;
+
+fn write(bytes: &[u8], out: &mut [u8], record: &mut [u64; 2]) -> Result<(), Refusal>
+    ensures number { number_in result ≡ copy_number bytes.now (length out.old) }
+    ensures buffer { out.new ≡ after (number_in result) (at_front (bytes_in bytes.now) out.old) out.old }
+    ensures reported { «record».new ≡ after (number_in result) (record_numbers (kind_in bytes.now)) «record».old }
+{
+    let kind = record_kind(bytes)?;
+    let n = record_length(kind);
+    if out.len() < n {
+        return Err(Refusal::NoRoom);
+    }
+    put(out, 0, &bytes[..n]);
+    report_record(kind, record);
+    Ok(())
+}
 
 // Writes the record at the front of bytes to the front of out, and reports its kind and length.
 #[unsafe(no_mangle)]
@@ -17,16 +32,5 @@ pub extern "C" fn yuzuknoll_write(bytes: &[u8], out: &mut [u8], record: &mut [u6
     ensures buffer { out.new ≡ after result (at_front (bytes_in bytes.now) out.old) out.old }
     ensures reported { «record».new ≡ after result (record_numbers (kind_in bytes.now)) «record».old }
 {
-    let number = record_number(bytes);
-    if number != ACCEPTED {
-        return number;
-    }
-    let kind = kind_in(bytes);
-    let n = record_length(kind);
-    if out.len() < n {
-        return refuse(Refusal::NoRoom);
-    }
-    put(out, 0, &bytes[..n]);
-    report_record(kind, record);
-    ACCEPTED
+    number(write(bytes, out, record)) as u64
 }

@@ -2,8 +2,8 @@
 use Rattle.yuzuknoll.proofs.Emitting.{emission_accepted}
 use Rattle.yuzuknoll.proofs.emit.emit_values.Goals as goal
 
-pub returns-in-Text-clause-res : goal.returns-in-Text-clause-res
-returns-in-Text-clause-res c =
+pub returns-clause-res : goal.returns-clause-res
+returns-clause-res c =
     let a = c.args in
     let p = c.emit_checked.ensures in
-    (emission_accepted a.key a.variant a.entry a.text.now a.res.now (p.answer, (p.buffer, (p.names, p.number))) c.in-Text.is c.report.ensures).1.1.0
+    (emission_accepted a.key a.variant a.entry a.text.now a.res.now (p.answer, (p.buffer, (p.names, p.number))) c.in_ok-emitted.was c.report.ensures).1.1.0
