@@ -1,22 +1,20 @@
 -- What the calls of yuzuknoll_apply promise, in each case of the code.
 use Prim.Native.Nat.{ℕ, ◌+◌, ◌≤◌}
 use mathlib.Core.Bool.{Bool, true, false, ◌&&◌, cond}
-use mathlib.Core.Path.{◌≡◌, refl, sym, ap, ◌∙◌}
-use mathlib.Core.List.{List, [], ◌∷◌, ◌++◌}
+use mathlib.Core.Path.{◌≡◌, refl, sym, ◌∙◌}
+use mathlib.Core.List.{List, ◌++◌}
 use native.Mathlib.Omega.{arith}
 use borrow.Author.Tests.{eqb-true, ne_eqb}
 use lib.Dec.{eqb}
 use lib.ListN.{length, take, drop, get_or}
 use lib.Seq.{sets, length-take-le}
-use Rattle.std.specs.Prelude.{Option, Some, None, is_some, Result, Ok, Err, is_ok}
+use Rattle.std.specs.Prelude.{Option, Some, None, is_some}
 use Rattle.text.specs.Text.{raw}
 use Rattle.text.specs.Buffer.{Wrote}
 use Rattle.values.specs.Admitted.{Admitted}
-use Rattle.values.specs.Refusals.{number_in}
 use Rattle.values.specs.declared.Key.{Key}
 use Rattle.values.specs.declared.Variant.{Variant}
 use Rattle.values.specs.declared.Entry.{Entry}
-use Rattle.values.specs.declared.Refusal.{Refusal}
 use Rattle.values.specs.declared.Refusal.TheVariants.{EmitTooEarly}
 use Rattle.wire.specs.Bodies.{kind_byte, body_length, key_kind, record_length, key_from_body, variant_from_body, entry_from_body}
 use Rattle.wire.specs.Reading.{body_number, record_number}

@@ -24,7 +24,6 @@ use Rattle.wire.specs.Values.{key_as, key_record}
 use Rattle.wire.specs.declared.Kind.{Kind}
 use Rattle.wire.specs.declared.Kind.TheVariants as kind
 use Rattle.wire.specs.declared.Reading.{Reading}
-use Rattle.wire.specs.declared.Record.{Record}
 use Rattle.wire.specs.declared.Record.TheVariants as rec
 use Rattle.wire.proofs.Bodies.{Bytes, Free, Shaped, key_body, key_kind_of, key_shaped, record-length, key_back, specular_back, variant_back, entry_back}
 use Rattle.wire.proofs.Found.{Taken, read_cases}

@@ -1,6 +1,5 @@
 -- An emit record emits, a state write alters the key, and any other is kept.
-use Rattle.std.proofs.Common.{arith, rules, refl, sym, ap, ◌≡◌, ◌≤◌, length, ◌∙◌}
-use lib.Dec.{eqb}
+use Rattle.std.proofs.Common.{arith, rules, refl, sym, ap, ◌≤◌, length, ◌∙◌}
 use Rattle.wire.specs.Bodies.{record_length}
 use Rattle.yuzuknoll.specs.Applying.{held_with}
 use Rattle.yuzuknoll.proofs.Records.{bytes_within}
