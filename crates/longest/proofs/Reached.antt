@@ -9,7 +9,8 @@ use Rattle.values.specs.declared.Key.{Key}
 use Rattle.values.specs.declared.Variant.{Variant}
 use Rattle.values.specs.declared.Entry.{Entry}
 use Rattle.wire.specs.Bodies.{stages_bytes, key_bytes, stages_from_bytes, key_from_body, variant_bytes, variant_from_body, body_bytes, record_bytes}
-use Rattle.wire.specs.Values.{key_record, variant_record}
+use Rattle.wire.specs.Values.{key_record}
+use Rattle.wire.specs.declared.Record.TheVariants as rec
 use Rattle.wire.specs.Reading.{read_body, read_as, read_record, took}
 use Rattle.lengths.specs.Bounds.{greatest_length, Typed, Permitted}
 use Rattle.lengths.specs.Witness.{longest_key, longest_variant}
@@ -21,7 +22,7 @@ key-read : read_record (record_bytes (key_record (longest_key false))) ≡ took 
 unfolding body_bytes key_bytes stages_bytes read_record read_as read_body key_from_body stages_from_bytes stage_flags_bad
 key-read = refl
 
-variant-read : read_record (record_bytes (variant_record (longest_variant false))) ≡ took (variant_record (longest_variant false))
+variant-read : read_record (record_bytes (rec.Variant (longest_variant false))) ≡ took (rec.Variant (longest_variant false))
 unfolding body_bytes variant_bytes read_record read_as read_body variant_from_body
 variant-read = refl
 
@@ -36,7 +37,7 @@ longest =
     record {
       size = greatest_length false 1;
       key_bytes = record_bytes (key_record (longest_key false));
-      variant_bytes = record_bytes (variant_record (longest_variant false));
+      variant_bytes = record_bytes (rec.Variant (longest_variant false));
       key = longest_key false;
       variant = longest_variant false;
       lines = refl;
