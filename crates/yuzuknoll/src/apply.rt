@@ -10,12 +10,13 @@ ghost use Rattle.yuzuknoll.specs.Records.{kind_in};
 ghost use Rattle.yuzuknoll.specs.Applying.{HeldReported, applied_numbers, held_length, held_of, held_with, no_result, on_emit, place_of, result_with, text_with};
 
 use crate::alter::alter_held;
-use crate::emit::{RESULT_LENGTH, emit_read, read_key};
+use crate::emit::{RESULT_LENGTH, emit_rewritten, emit_values, read_key};
 use crate::parts::{
     ENTRY_BODY, ENTRY_PLACE, HELD_LENGTH, KEY_BODY, KEY_PLACE, VARIANT_BODY, VARIANT_PLACE,
     holds_all, place_of,
 };
 use inspection::causes::record_kind;
+use inspection::keys::any_byte_of_three;
 use text::put;
 use values::{Refusal, number};
 use wire::reader::{entry_from_body, state_from_body, variant_from_body};
@@ -44,9 +45,12 @@ fn emit_held(
     let entry = entry_from_body(&held[ENTRY_BODY..HELD_LENGTH]);
     if held[KEY_PLACE] == KIND_WIDE_KEY {
         let wide_key = read_key::<true>(body);
-        return emit_read::<true>(wide_key, body, variant, entry, text, res);
+        return emit_values(wide_key, variant, entry, text, res);
     }
-    emit_read::<false>(key, body, variant, entry, text, res)
+    if any_byte_of_three(body) {
+        return emit_rewritten(body, variant, entry, text, res);
+    }
+    emit_values(key, variant, entry, text, res)
 }
 
 // A value's record, over its part of the held bytes.

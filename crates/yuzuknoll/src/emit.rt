@@ -45,7 +45,7 @@ fn report(emitted: Emitted, res: &mut [u64; RESULT_LENGTH])
 }
 
 // From values that are free of the causes 3, 5, 6 and 13, of a key whose stages take effect as they are.
-fn emit_values(
+pub(crate) fn emit_values(
     key: Key,
     variant: Variant,
     entry: Entry,
@@ -65,7 +65,7 @@ fn emit_values(
 
 // From the body of a key of kind 1 that may have ops of three operands. It is a function of its own because few keys have, and what the others need is
 // quicker without it.
-fn emit_rewritten(
+pub(crate) fn emit_rewritten(
     body: &[u8],
     variant: Variant,
     entry: Entry,
@@ -92,28 +92,6 @@ pub(crate) fn read_key<const WIDE: bool>(body: &[u8]) -> Key
     } else {
         raw_key(body)
     }
-}
-
-// From the body of a key, and the key that was read of it.
-pub(crate) fn emit_read<const WIDE: bool>(
-    key: Key,
-    body: &[u8],
-    variant: Variant,
-    entry: Entry,
-    text: &mut [u8],
-    res: &mut [u64; RESULT_LENGTH],
-) -> Result<(), Refusal>
-    requires body { (body_length (key_kind WIDE) ≤ length body.now) × (key ≡ key_read WIDE body.now) }
-    requires admitted { Admitted (key_from_body WIDE body.now) variant entry }
-    ensures number { number_in result ≡ emission_number (key_from_body WIDE body.now) variant entry (length text.old) }
-    ensures text { text.new ≡ after (number_in result) (at_front (text_of (key_from_body WIDE body.now) variant entry) text.old) text.old }
-    ensures res { res.new ≡ after (number_in result) (result_numbers (emitted_of (key_from_body WIDE body.now) variant entry)) res.old }
-    ensures names { number_in result ≡ 0 → ReportedDemands (key_from_body WIDE body.now) text.new res.new }
-{
-    if !WIDE && any_byte_of_three(body) {
-        return emit_rewritten(body, variant, entry, text, res);
-    }
-    emit_values(key, variant, entry, text, res)
 }
 
 // The first cause of three bodies: the key's, then the variant's and the entry's.
@@ -149,7 +127,10 @@ fn emit_bodies<const WIDE: bool>(
     bodies_cause::<WIDE>(key, variant, entry)?;
     let v = variant_from_body(variant);
     let e = entry_from_body(entry);
-    emit_read::<WIDE>(k, key, v, e, text, res)
+    if !WIDE && any_byte_of_three(key) {
+        return emit_rewritten(key, v, e, text, res);
+    }
+    emit_values(k, v, e, text, res)
 }
 
 // Writes the text of a key, a variant and an entry to the front of text, and its length, mask, rows, lookups and warnings to result.
