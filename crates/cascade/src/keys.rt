@@ -1,6 +1,7 @@
 //! What a stage and its combiners say by themselves: textures, reads, fallback, bump, constants; and the count of active stages.
 //!
-//! A rule that rarely applies first asks for the rare argument.
+//! A rule that rarely applies first asks for the rare argument. Ops and arguments stay bytes: any byte is admitted, and each rule compares one with a
+//! code or two, where an enum would first be made by a match of its own.
 ghost use Rattle.std.specs.Prelude.{◌≡◌, ℕ, Bool};
 ghost use Rattle.cascade.specs.Keys.{textured, to_temp, active_count, reads_first, reads_second, selects, some, some_counted, reads, falls_back, is_bump_op, bump, alpha_from_colour, reads_constant, blends_by_factor, names_factor};
 ghost use Rattle.cascade.specs.Walks.{Tests};

@@ -1,4 +1,6 @@
 //! The reading rule: what the expressions of a stage read, by its key alone.
+//!
+//! A combiner and whether its stage has a texture stay two parameters: both combiners of a stage share the second.
 ghost use Rattle.std.specs.Prelude.{◌≡◌, Bool};
 ghost use Rattle.combiners.specs.Combiners.{keeps_first, keeps_second, reads_own_texel};
 ghost use Rattle.values.specs.declared.Combiner.{Combiner};

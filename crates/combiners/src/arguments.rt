@@ -24,6 +24,7 @@ fn source_of(selector: u8, textured: bool) -> Source
     }
 }
 
+// Whether a texture is bound counts too, so this is no `From`.
 pub fn arg_of(byte: u8, textured: bool) -> Arg
     ensures { result ≡ arg_of textured byte }
 {

@@ -102,7 +102,8 @@ pub fn emit(key: Key, variant: Variant, entry: Entry, out: &mut [u8]) -> Result<
     emit_checked(k, variant, entry, out)
 }
 
-// The written front of a buffer, for the length that emission answered; empty for a length beyond the buffer.
+// The written front of a buffer, for the length that emission answered; empty for a length beyond the buffer. The length stands beside the buffer by a
+// rule of the project (DECISIONS, "Forms by place").
 pub fn front(buf: &mut [u8], len: usize) -> &mut [u8]
     ensures bytes { result.now ≡ front_of buf.old len }
     ensures place { result.ref_ptr ≡ buf.entry.ref_ptr }

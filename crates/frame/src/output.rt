@@ -35,7 +35,7 @@ fn put_fog_depth(out: &mut [u8], at: usize, w: bool) -> usize
     )
 }
 
-// The factor by the table mode: EXP, EXP2, or else linear.
+// The factor by the table mode: EXP, EXP2, or else linear. As of the comparisons below, an enum of the modes would be a second such match.
 fn put_fog_factor(out: &mut [u8], at: usize, mode: u8) -> usize
     ensures { Wrote out.old at out.new result (fog_factor_text mode) }
 {

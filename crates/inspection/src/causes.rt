@@ -1,4 +1,6 @@
 //! The causes 1 to 6 and 10 to 13 of a record, found on its bytes: of a key and a variant no value is made.
+//!
+//! As for the reader, a body is a slice and no array, which would ask more of callers.
 ghost use Rattle.std.specs.Prelude.{◌≤◌, ◌≡◌, cond, ltb, length};
 ghost use Rattle.values.specs.Flags.{stage_flags_bad};
 ghost use Rattle.values.specs.Refusals.{number_in};
@@ -79,7 +81,7 @@ fn state_cause(body: &[u8]) -> Result<(), Refusal>
     check(state_from_body(body))
 }
 
-// Of the body of a kind at the front of some bytes.
+// Of the body of a kind at the front of some bytes. Each kind has causes of its own: a table of functions would be the same match.
 pub fn kind_cause(kind: Kind, body: &[u8]) -> Result<(), Refusal>
     ensures { number_in result ≡ cond (ltb (length body.now) (body_length kind)) 1 (body_number kind body.now) }
 {

@@ -1,4 +1,6 @@
 //! A key of kind 1 as its bytes lie.
+//!
+//! As for the reader, a body is a slice and no array, which would ask more of callers.
 ghost use Rattle.std.specs.Prelude.{◌+◌, ◌≤◌, ◌≡◌, drop, length, take};
 ghost use Rattle.wire.specs.Bodies.{body_length};
 ghost use Rattle.inspection.specs.Raw.{any_byte_of_three, raw_key, raw_stage, raw_stages};

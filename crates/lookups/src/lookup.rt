@@ -1,4 +1,6 @@
 //! The lookup of a stage.
+//!
+//! The coordinate stands beside the sampling, and is no part of it: one sampling is written at several.
 ghost use Rattle.text.specs.Buffer.{Wrote};
 ghost use Rattle.shader.specs.Lookups.{lookup_text};
 

@@ -52,7 +52,7 @@ pub struct Variant {
     pub flags: u8,
 }
 
-// The name of the fragment function: its first len bytes, then zeros.
+// The name of the fragment function: its first len bytes, then zeros. Memory is fixed here, as in its record.
 #[derive(Clone, Copy, Default)]
 pub struct Entry {
     pub len: u8,

@@ -1,4 +1,6 @@
 //! The reader: the record at the front of some bytes, or why there is none.
+//!
+//! A body is a slice that may go on behind its kind's length, which a `requires` names: an array would ask more of callers.
 ghost use Rattle.std.specs.Prelude.{◌+◌, ◌*◌, ◌≤◌, ◌<◌, ◌≡◌, drop, length};
 ghost use Rattle.values.specs.Refusals.{number_in};
 ghost use Rattle.wire.specs.Bodies.{body_length, entry_from_body, key_from_body, key_kind, mask_at, record_from_body, specular_at};

@@ -1,4 +1,4 @@
-//! Emission from the bodies of a key, a variant and an entry.
+//! Emission from the bodies of a key, a variant and an entry. The C interface lends the text and its result apart.
 ghost use Rattle.std.specs.Prelude.{◌≤◌, ◌≡◌, false, true, length};
 ghost use Rattle.values.specs.Admitted.{Admitted};
 ghost use Rattle.values.specs.Refusals.{number_in};
