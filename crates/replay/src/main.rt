@@ -1,6 +1,8 @@
 //! Replays the list of the Rust's answers, and prints which cases differ, and how many. oracle/list/README.md says how the list is laid out.
 #![tactic(auto)]
 
+ghost use Rattle.std.specs.Prelude.{◌≤◌, length};
+
 use printout::lines::LINE_LENGTH;
 use printout::{TEXT_LENGTH, begin, step};
 use std::fs::File;
@@ -44,15 +46,33 @@ enum Missing {
     CutShort,
 }
 
+// Reads until the buffer is full, the input ends or a read fails: how many bytes came. `read_exact` does not tell, and tries an interrupted read again.
+fn read_full<R: Read>(from: &mut R, buf: &mut [u8]) -> usize
+    ensures { result ≤ length buf.new }
+{
+    let mut n = 0;
+    while n < buf.len() {
+        match from.read(&mut buf[n..]) {
+            Ok(0) => return n,
+            Ok(more) => n += more,
+            Err(_) => return n,
+        }
+    }
+    n
+}
+
 // A block of the list, an input or an output, which stands behind its length in four bytes.
 fn read_block<'a, R: Read>(from: &mut R, buffer: &'a mut [u8]) -> Result<&'a [u8], Missing> {
     let mut head = [0u8; 4];
-    from.read_exact(&mut head[..1]).map_err(|_| Missing::Ended)?;
-    from.read_exact(&mut head[1..])
-        .map_err(|_| Missing::CutShort)?;
+    let got = read_full(from, &mut head);
+    if got == 0 {
+        return Err(Missing::Ended);
+    }
     let length = u32::from_le_bytes(head) as usize;
     let block = buffer.get_mut(..length).ok_or(Missing::CutShort)?;
-    from.read_exact(block).map_err(|_| Missing::CutShort)?;
+    if got < 4 || read_full(from, block) < length {
+        return Err(Missing::CutShort);
+    }
     Ok(block)
 }
 
