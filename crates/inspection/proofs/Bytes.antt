@@ -45,7 +45,8 @@ flags_behind [] s = or-false (leb 4 s.flags)
 flags_behind (t ∷ l) s = rw (flags_behind l s) (sym (or_assoc (leb 4 t.flags) (stage_flags_bad l) (leb 4 s.flags)))
 
 -- the flags are the last byte of a stage
-last_byte : (wide : Bool) (b : List ℕ) (n : ℕ) → get_or b (stage_size wide * n + stage_size wide - 1) 0 ≡ (stage_from_bytes wide (drop (stage_size wide * n) b)).flags
+last_byte : (wide : Bool) (b : List ℕ) (n : ℕ)
+    → get_or b (stage_size wide * n + stage_size wide - 1) 0 ≡ (stage_from_bytes wide (drop (stage_size wide * n) b)).flags
 last_byte true b n = sym (get_or-drop (9 * n) b 8 0 ∙ ap (λ (k : ℕ). get_or b k 0) (omega arith))
 last_byte false b n = sym (get_or-drop (7 * n) b 6 0 ∙ ap (λ (k : ℕ). get_or b k 0) (omega arith))
 

@@ -5,15 +5,15 @@ use mathlib.Core.Path.{◌≡◌, refl, sym, ap, ◌∙◌}
 use mathlib.Core.List.{List}
 use native.Mathlib.Omega.{arith}
 use borrow.Author.Tests.{lt-ltb, le-ltb}
-use lib.Dec.{eqb, ltb}
-use lib.ListN.{length, get_or}
+use lib.Dec.{eqb}
+use lib.ListN.{get_or}
 use Rattle.std.specs.Prelude.{Result, Ok, Err}
 use Rattle.values.specs.Flags.{stage_flags_bad}
 use Rattle.values.specs.Refusals.{number_of, number_in}
 use Rattle.values.specs.declared.Refusal.{Refusal}
 use Rattle.values.specs.declared.Refusal.TheVariants.{CutShort, UnknownKind, StageFlags, SpecularAdd, VariantFlags, EntryName, EmitTooEarly, NoRoom}
 use Rattle.values.specs.declared.Refusal.TheVariants.{InputTooLong, ReservedWord, StageNumber, StateType, StateValue}
-use Rattle.wire.specs.Bodies.{kind_byte, kind_of, body_length, key_kind, key_from_body, specular_at, specular_byte}
+use Rattle.wire.specs.Bodies.{kind_byte, kind_of, key_kind, key_from_body, specular_at, specular_byte}
 use Rattle.wire.specs.Reading.{kind_from, key_number, body_number, read_record, record_number}
 use Rattle.wire.specs.declared.Kind.{Kind}
 use Rattle.wire.specs.declared.Kind.TheVariants as kind
@@ -100,8 +100,3 @@ module _ (wide : Bool) (b : List ℕ) where
 
     pub key_passed : get_or b at 0 ≤ 1 → 0 ≡ body_number (key_kind wide) b
     key_passed h = rw (← of_key wide b, free, le-ltb 1 (specular_byte wide b) (rw p at h))
-
--- A body that is not cut short.
-pub not_short : {j k : Kind} {m n : ℕ} (b : List ℕ) → n ≡ body_length k → k ≡ j → n ≤ length b → m ≡ body_number j b →
-    m ≡ cond (ltb (length b) (body_length k)) 1 (body_number k b)
-not_short {k = k} b e t h q = rw (le-ltb (length b) (body_length k) (rw e at h), t) q

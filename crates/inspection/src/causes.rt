@@ -37,6 +37,7 @@ fn key_flags_bad<const WIDE: bool>(body: &[u8]) -> bool
 }
 
 // Of a key of kind 6, if it is wide, or of kind 1.
+#[tactic(auto, using(crate::proofs::Numbers::flags_refused, crate::proofs::Numbers::specular_refused, crate::proofs::Numbers::key_passed))]
 pub fn key_cause<const WIDE: bool>(body: &[u8]) -> Result<(), Refusal>
     requires { body_length (key_kind WIDE) ≤ length body.now }
     ensures { number_in result ≡ body_number (key_kind WIDE) body.now }
@@ -50,6 +51,7 @@ pub fn key_cause<const WIDE: bool>(body: &[u8]) -> Result<(), Refusal>
     Ok(())
 }
 
+#[tactic(auto, unfolding(wire::specs::Reading::body_number, wire::specs::Bodies::variant_from_body))]
 pub fn variant_cause(body: &[u8]) -> Result<(), Refusal>
     requires { body_length Kind.Variant ≤ length body.now }
     ensures { number_in result ≡ body_number Kind.Variant body.now }
@@ -60,6 +62,7 @@ pub fn variant_cause(body: &[u8]) -> Result<(), Refusal>
     Ok(())
 }
 
+#[tactic(auto, unfolding(wire::specs::Reading::body_number))]
 pub fn entry_cause(body: &[u8]) -> Result<(), Refusal>
     requires { body_length Kind.Entry ≤ length body.now }
     ensures { number_in result ≡ body_number Kind.Entry body.now }
@@ -74,6 +77,7 @@ pub fn entry_cause(body: &[u8]) -> Result<(), Refusal>
     Ok(())
 }
 
+#[tactic(auto, unfolding(wire::specs::Reading::body_number))]
 fn state_cause(body: &[u8]) -> Result<(), Refusal>
     requires { body_length Kind.State ≤ length body.now }
     ensures { number_in result ≡ body_number Kind.State body.now }
@@ -82,6 +86,7 @@ fn state_cause(body: &[u8]) -> Result<(), Refusal>
 }
 
 // Of the body of a kind at the front of some bytes. Each kind has causes of its own: a table of functions would be the same match.
+#[tactic(auto, unfolding(wire::specs::Reading::body_number))]
 pub fn kind_cause(kind: Kind, body: &[u8]) -> Result<(), Refusal>
     ensures { number_in result ≡ cond (ltb (length body.now) (body_length kind)) 1 (body_number kind body.now) }
 {
@@ -99,6 +104,7 @@ pub fn kind_cause(kind: Kind, body: &[u8]) -> Result<(), Refusal>
 }
 
 // The kind of the record at the front of some bytes, or why there is none.
+#[tactic(auto, unfolding(wire::specs::Reading::record_number))]
 pub fn record_kind(bytes: &[u8]) -> Result<Kind, Refusal>
     ensures kind { result ≡ kind_read (read_record bytes.now) }
     ensures number { number_in result ≡ record_number bytes.now }

@@ -49,6 +49,7 @@ fn raw_stages(body: &[u8]) -> [Stage; 8]
     stages
 }
 
+#[tactic(auto, unfolding(crate::specs::Raw::raw_key))]
 pub fn raw_key(body: &[u8]) -> Key
     requires { body_length Kind.Key ≤ length body.now }
     ensures { result ≡ raw_key body.now }

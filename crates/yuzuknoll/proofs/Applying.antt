@@ -140,11 +140,6 @@ module _ (held out res : List ℕ) where
   unfolding text_with result_with
   held_emitted t w q r s = let h = all_held_lem held t in let y = rw (q, r, ← w) at s in rw h.all y
 
--- a record laid over its part
-pub laid : (k : Kind) (held b : List ℕ) {n at at' : ℕ} {held' : List ℕ} → n ≡ record_length k → at ≡ place_of k → place_of k + record_length k ≤ length held →
-    record_length k ≤ length b → Wrote held at held' at' (raw (take n b)) → held' ≡ sets held (place_of k) (take (record_length k) b)
-laid k held b e f g h w = let u = rw (e, f) at w in (u.fits (omega (arith, length-take-le (record_length k) b h))).0
-
 -- A record of a kind, done.
 
 -- a record that is no emit record
@@ -194,10 +189,6 @@ module _ (held b out : List ℕ) (k : Kind) where
       × ((out' ≡ after n (text_with k (held_of held) out) out)
       × ((res' ≡ after n (result_with k (held_of held)) no_result) × (n ≡ 0 → k ≡ kind.Emit → HeldReported (held_of held) out' res'))))
 
-  pub done_emit : {n : ℕ} {out' res' : List ℕ} → k ≡ kind.Emit → HeldEmits held out no_result n out' res' → Done n held out' res'
-  unfolding held_with
-  done_emit {n} f s = (rw f s.0, (rw f (either_way (eqb n 0) held), (rw f s.1.0, (rw f s.1.1.0, λ e _. s.1.1.1 e))))
-
   done_held : {held' : List ℕ} → is_emit k ≡ 0 → held' ≡ held_with k b held → Done 0 held' out no_result
   unfolding text_with result_with
   done_held v p = (rw (other k v), (p, (rw (other k v), (rw (other k v), λ _ f. absurd (let w = rw f at v in omega arith)))))
@@ -218,9 +209,6 @@ module _ (held b out apd : List ℕ) where
       × ((out' ≡ after n (text_with (kind_in b) (held_of held) out) out)
       × ((apd' ≡ after n (applied_numbers (kind_in b) (held_of held)) apd)
       × (n ≡ 0 → kind_in b ≡ kind.Emit → HeldReported (held_of held) out' (drop 2 apd')))))
-
-  pub apply_refused : {n : ℕ} → n ≡ record_number b → (n ≡ 0 → ⊥) → Applies n held out apd
-  apply_refused q h = (first_refused _ q h, (left _ held h, (left _ out h, (left _ apd h, λ z. absurd (h z)))))
 
   module _ (z : record_number b ≡ 0) {k : Kind} (g : k ≡ kind_in b) where
     number : {n : ℕ} → n ≡ on_emit k (emit_number (held_of held) (length out)) 0 → n ≡ applied_number (held_of held) b (length out)

@@ -48,10 +48,6 @@ module _ (k : Key) (v : Variant) (e : Entry) (out res : List ℕ) where
       (a ≡ answer_of k v e (length out))
       × ((out' ≡ buffer_after a (text_of k v e) out) × (Demanded k a out' × (number_in a ≡ emission_number k v e (length out))))
 
-  pub emission_refused : {a : Result Emitted Refusal} {out' : List ℕ} {c : Refusal} → Promise a out' → a ≡ Err c → Emits (number_of c) out' res
-  emission_refused {c = c} p g =
-      let p' = rw g at p in (p'.1.1.1, (p'.1.0 ∙ left _ out (not_zero c), (left _ res (not_zero c), λ z. absurd (not_zero c z))))
-
   picked : (three five six thirteen eight : Bool) (x m : Emitted) →
       cond three (Err StageFlags) (cond five (Err VariantFlags) (cond six (Err EntryName) (cond thirteen (Err ReservedWord)
       (cond eight (Err NoRoom) (Ok x))))) ≡ Ok m
@@ -68,7 +64,8 @@ module _ (k : Key) (v : Variant) (e : Entry) (out res : List ℕ) where
   accepted g =
       picked (stage_flags_bad k.stages) (variant_flags_bad v) (not (entry_good e)) (entry_reserved e) (ltb (length out) (length (text_of k v e))) _ _ g
 
-  pub emission_accepted : {a : Result Emitted Refusal} {out' res' : List ℕ} {m : Emitted} → Promise a out' → a ≡ Ok m → res' ≡ result_numbers m → Emits 0 out' res'
+  pub emission_accepted : {a : Result Emitted Refusal} {out' res' : List ℕ} {m : Emitted} → Promise a out' → a ≡ Ok m → res' ≡ result_numbers m
+      → Emits 0 out' res'
   emission_accepted p g q =
       let p' = rw g at p in
       (p'.1.1.1, (p'.1.0, (q ∙ ap result_numbers (accepted (sym p'.0)), λ z. rw (q, told) p'.1.1.0)))

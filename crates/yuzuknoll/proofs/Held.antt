@@ -18,7 +18,8 @@ use Rattle.values.specs.declared.Entry.{Entry}
 use Rattle.values.specs.declared.StateWrite.{StateWrite}
 use Rattle.states.specs.States.{wide_stages}
 use Rattle.values.specs.declared.Refusal.{Refusal}
-use Rattle.wire.specs.Bodies.{kind_byte, kind_of, key_kind, record_length, key_from_body, variant_from_body, entry_from_body, key_bytes, body_bytes, record_bytes}
+use Rattle.wire.specs.Bodies.{kind_byte, kind_of, key_kind, record_length, key_from_body, variant_from_body, entry_from_body, key_bytes, body_bytes}
+use Rattle.wire.specs.Bodies.{record_bytes}
 use Rattle.wire.specs.Reading.{took, body_number, record_number}
 use Rattle.wire.specs.Values.{key_as, key_record}
 use Rattle.wire.specs.declared.Kind.{Kind}

@@ -63,9 +63,6 @@ module _ (b out old : List ℕ) where
   refused : {n : ℕ} → n ≡ copy_number b (length out) → (n ≡ 0 → ⊥) → Writes n out old
   refused q h = (q, (left _ out h, left _ old h))
 
-  pub write_refused : {n : ℕ} → n ≡ record_number b → (n ≡ 0 → ⊥) → Writes n out old
-  write_refused q h = refused (first_refused _ q h) h
-
   module _ (z : record_number b ≡ 0) {k : Kind} (g : k ≡ kind_in b) {n : ℕ} (l : n ≡ record_length k) where
     size : n ≡ record_length (kind_in b)
     size = l ∙ ap record_length g

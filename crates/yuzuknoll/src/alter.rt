@@ -28,7 +28,8 @@ fn key_or_defaults(held: &[u8; HELD_LENGTH]) -> Key
     held_key(held).unwrap_or_else(defaults)
 }
 
-// A write that leaves the kind of a held key is done where the key lies. Any other leaves the record of the altered key.
+// A write that leaves the kind of a held key is done where the key lies. Any other leaves the record of the altered key, for which the held bytes have room.
+#[tactic(auto, using(crate::proofs::Altering::alterable, crate::proofs::Altering::altered_there, crate::proofs::Altering::key_rewritten))]
 pub(crate) fn alter_held(held: &mut [u8; HELD_LENGTH], made: StateWrite)
     requires { accepted made ≡ true }
     ensures { held.new ≡ sets held.old 0 (altered_record made held.old) }

@@ -7,7 +7,8 @@ ghost use Rattle.wire.specs.Bodies.{record_length};
 ghost use Rattle.wire.specs.Reading.{record_number};
 ghost use Rattle.yuzuknoll.specs.Lent.{after, record_numbers};
 ghost use Rattle.yuzuknoll.specs.Records.{kind_in};
-ghost use Rattle.yuzuknoll.specs.Applying.{HeldReported, applied_numbers, held_length, held_of, held_with, no_result, on_emit, place_of, result_with, text_with};
+ghost use Rattle.yuzuknoll.specs.Applying.{HeldReported, applied_numbers, held_length, held_of, held_with, no_result, on_emit, place_of};
+ghost use Rattle.yuzuknoll.specs.Applying.{result_with, text_with};
 
 use crate::alter::alter_held;
 use crate::emit::{RESULT_LENGTH, emit_rewritten, emit_values, read_key};

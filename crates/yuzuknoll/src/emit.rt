@@ -101,7 +101,8 @@ fn bodies_cause<const WIDE: bool>(
     entry: &[u8; ENTRY_LENGTH],
 ) -> Result<(), Refusal>
     requires { body_length (key_kind WIDE) ≤ length key.now }
-    ensures { number_in result ≡ first_of (body_number (key_kind WIDE) key.now) (first_of (body_number Kind.Variant variant.now) (body_number Kind.Entry entry.now)) }
+    ensures { number_in result
+        ≡ first_of (body_number (key_kind WIDE) key.now) (first_of (body_number Kind.Variant variant.now) (body_number Kind.Entry entry.now)) }
 {
     key_cause::<WIDE>(key)?;
     variant_cause(variant)?;

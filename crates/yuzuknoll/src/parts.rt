@@ -50,6 +50,7 @@ fn part_held(kind: Kind, byte: u8, body: &[u8]) -> bool
     (byte == u8::from(kind)) & kind_cause(kind, body).is_ok()
 }
 
+#[tactic(auto, using(crate::proofs::Applying::key_part))]
 pub(crate) fn holds_key(held: &[u8; HELD_LENGTH]) -> bool
     ensures { result ≡ is_some (held_of held.now).key }
 {
@@ -61,6 +62,7 @@ pub(crate) fn holds_key(held: &[u8; HELD_LENGTH]) -> bool
     )
 }
 
+#[tactic(auto, using(crate::proofs::Applying::held_some, crate::proofs::Applying::wide_key, crate::proofs::Applying::narrow_key))]
 pub(crate) fn held_key(held: &[u8; HELD_LENGTH]) -> Option<Key>
     ensures { result ≡ (held_of held.now).key }
 {
@@ -74,6 +76,7 @@ pub(crate) fn held_key(held: &[u8; HELD_LENGTH]) -> Option<Key>
     Some(key_from_body::<false>(body))
 }
 
+#[tactic(auto, using(crate::proofs::Applying::key_part, crate::proofs::Applying::all_good), unfolding(crate::specs::Applying::held_of))]
 pub(crate) fn holds_all(held: &[u8; HELD_LENGTH]) -> bool
     ensures { result ≡ is_some (all_held (held_of held.now)) }
 {

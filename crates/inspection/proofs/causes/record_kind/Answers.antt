@@ -1,24 +1,8 @@
--- No byte is cut short; else the first byte and what stands behind it give the number, and so the answer.
+-- The answer is the one with the number of the bytes, and with the kind that their first byte names.
 use Rattle.std.proofs.Common.{rules, Ok}
 use Rattle.wire.specs.Reading.{record_number}
 use Rattle.inspection.proofs.Numbers.{kind_answer}
 use Rattle.inspection.proofs.causes.record_kind.Goals as goal
-
-pub returns-in_err-byte-clause-number : goal.returns-in_err-byte-clause-number
-unfolding record_number
-returns-in_err-byte-clause-number c = search rules
-
-pub returns-in_err-kind-clause-number : goal.returns-in_err-kind-clause-number
-unfolding record_number
-returns-in_err-kind-clause-number c = search rules
-
-pub returns-in_err-kind_cause-clause-number : goal.returns-in_err-kind_cause-clause-number
-unfolding record_number
-returns-in_err-kind_cause-clause-number c = search rules
-
-pub returns-clause-number : goal.returns-clause-number
-unfolding record_number
-returns-clause-number c = search rules
 
 pub returns-in_err-byte-clause-kind : goal.returns-in_err-byte-clause-kind
 unfolding record_number
