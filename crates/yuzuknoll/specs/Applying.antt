@@ -51,10 +51,10 @@ is_record k byte body = eqb byte (kind_byte k) && eqb (body_number k body) 0
 abbrev pub held_wide : List ℕ → Bool
 held_wide held = eqb (held_byte kind.Key held) (kind_byte kind.WideKey)
 
--- the values that held bytes stand for
 abbrev pub held_if : {A : Type 0} → Bool → A → Option A
 held_if good x = cond good (Some x) None
 
+-- the values that held bytes stand for
 unfoldable pub held_of : List ℕ → Held
 held_of held =
     record {

@@ -20,6 +20,7 @@ bodies_text wide k v e = text_of (key_from_body wide k) (variant_from_body v) (e
 abbrev pub bodies_result : Bool → List ℕ → List ℕ → List ℕ → List ℕ
 bodies_result wide k v e = result_numbers (emitted_of (key_from_body wide k) (variant_from_body v) (entry_from_body e))
 
--- the key that is read of a body first: of kind 1 as its bytes lie. It is emitted in the place of the body's, where no op has three operands.
+-- The key that is read of a body first: of kind 1 as its bytes lie. It is emitted in the place of the body's, where no op has three operands. Only contracts
+-- of private functions cite it.
 abbrev pub key_read : Bool → List ℕ → Key
 key_read wide k = cond wide (key_from_body true k) (raw_key k)
