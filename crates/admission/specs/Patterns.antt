@@ -15,6 +15,6 @@ fits (p ∷ s) [] = false
 fits (p ∷ s) (c ∷ w) = fits_byte p c && fits s w
 
 -- the first k patterns of n bytes that stand behind one another
-abbrev pub cut : ℕ → ℕ → List ℕ → List (List ℕ)
-cut n zero l = []
-cut n (suc k) l = take n l ∷ cut n k (drop n l)
+abbrev pub chunks : ℕ → ℕ → List ℕ → List (List ℕ)
+chunks n zero l = []
+chunks n (suc k) l = take n l ∷ chunks n k (drop n l)

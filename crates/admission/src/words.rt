@@ -2,7 +2,7 @@
 ghost use Rattle.std.specs.Prelude.{◌≡◌, ◌<◌, ◌/◌, length};
 ghost use Rattle.std.specs.List.{list_any};
 ghost use Rattle.values.specs.Words.{entry_reserved, reserved_word};
-ghost use Rattle.admission.specs.Patterns.{cut, fits, fits_byte};
+ghost use Rattle.admission.specs.Patterns.{chunks, fits, fits_byte};
 
 use crate::between;
 use values::Entry;
@@ -24,7 +24,7 @@ fn fits(pattern: &[u8], name: &[u8]) -> bool
 // slice of slices, which was tried, took up to six times as many steps.
 fn fits_any(patterns: &[u8], name: &[u8]) -> bool
     requires { 0 < length name.now }
-    ensures { result ≡ list_any (λ p. fits p name.now) (cut (length name.now) (length patterns.now / length name.now) patterns.now) }
+    ensures { result ≡ list_any (λ p. fits p name.now) (chunks (length name.now) (length patterns.now / length name.now) patterns.now) }
 {
     patterns
         .chunks_exact(name.len())

@@ -116,9 +116,7 @@ pub surveyed : (l : List Stage) (n : ℕ) (f : Facts) (m : Marks) (r : ℕ) → 
       count = n;
       mask = f.mask;
       rows = r;
-      op_warnings = f.op;
-      selector_warnings = f.selector;
-      modifier_warnings = f.modifier;
+      warnings = record { op = f.op; selector = f.selector; modifier = f.modifier };
       live = f.live;
       marks = m.marks;
       bump_env = m.bump_env;

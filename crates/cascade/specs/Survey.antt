@@ -1,9 +1,8 @@
 -- What a key says before any byte of text: everything of the result but the text's length, and what the text needs to know of the whole cascade.
 use Rattle.std.specs.Prelude.{ℕ, ◌+◌, ◌*◌, Bool, cond, List, [], ◌∷◌}
-use Rattle.combiners.specs.Warnings.{op_cause, selector_cause, modifier_cause}
 use Rattle.cascade.specs.Keys.{active, active_count, mask_of, rows_of}
 use Rattle.cascade.specs.Reading.{live, marked, reads_bump_env}
-use Rattle.cascade.specs.Warnings.{warned_stages}
+use Rattle.cascade.specs.Warnings.{warnings_of}
 use Rattle.values.specs.declared.Stage.{Stage}
 use Rattle.cascade.specs.declared.Survey.{Survey}
 
@@ -18,9 +17,7 @@ survey_of stages =
       count = active_count stages;
       mask = mask_of (active stages);
       rows = rows_of (active stages);
-      op_warnings = warned_stages op_cause (active stages);
-      selector_warnings = warned_stages selector_cause (active stages);
-      modifier_warnings = warned_stages modifier_cause (active stages);
+      warnings = warnings_of (active stages);
       live = live (active stages);
       marks = marks_of (live (active stages)) (active stages);
       bump_env = reads_bump_env (live (active stages)) (active stages);

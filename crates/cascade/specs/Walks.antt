@@ -21,12 +21,12 @@ gives selector_cause c = some unknown_selector c
 gives modifier_cause c = some unknown_modifier c
 
 -- a stage applies a combiner of which p holds
-abbrev pub warned : (Combiner → Bool) → Stage → Bool
-warned p s = (applies_colour s && p s.colour) || (applies_alpha s && p s.alpha)
+abbrev pub applies : (Combiner → Bool) → Stage → Bool
+applies p s = (applies_colour s && p s.colour) || (applies_alpha s && p s.alpha)
 
 -- it warns of a cause: it applies a combiner that gives it
 unfoldable pub warns : Cause → Stage → Bool
-warns c s = warned (gives c) s
+warns c s = applies (gives c) s
 
 -- the stages from number i on, each by itself
 unfoldable pub facts_of : ℕ → List Stage → Facts

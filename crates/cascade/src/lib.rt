@@ -11,6 +11,7 @@ pub mod walks;
 mod warnings;
 
 use combiners::Expression;
+use values::Warnings;
 
 // Where a stage's alpha comes from.
 #[derive(Clone, Copy)]
@@ -33,9 +34,7 @@ pub struct Survey {
     pub count: usize,
     pub mask: u8,
     pub rows: u8,
-    pub op_warnings: u8,
-    pub selector_warnings: u8,
-    pub modifier_warnings: u8,
+    pub warnings: Warnings,
     pub live: bool,
     pub marks: u8,
     pub bump_env: bool,

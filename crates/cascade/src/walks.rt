@@ -11,7 +11,7 @@ use crate::keys::{
 use crate::plain::is_plain;
 use crate::reading::{is_lined, is_luminance, reads_temp, reads_texel};
 use crate::warnings::{warns_modifier, warns_op, warns_selector};
-use values::{Key, Stage};
+use values::{Key, Stage, Warnings};
 
 // What the stages say each by itself: the mask, the last constant row, whether the factor is named and TEMP read, and the stages that warn.
 #[derive(Clone, Copy, Default)]
@@ -139,9 +139,11 @@ pub fn survey(k: Key) -> Survey
         count: n,
         mask: f.mask,
         rows: rows(f),
-        op_warnings: f.op,
-        selector_warnings: f.selector,
-        modifier_warnings: f.modifier,
+        warnings: Warnings {
+            op: f.op,
+            selector: f.selector,
+            modifier: f.modifier,
+        },
         live: f.live,
         marks: m.marks,
         bump_env: m.bump_env,

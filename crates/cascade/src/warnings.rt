@@ -4,7 +4,7 @@
 ghost use Rattle.std.specs.Prelude.{◌≡◌, Bool};
 ghost use Rattle.combiners.specs.Warnings.{op_cause, selector_cause, modifier_cause};
 ghost use Rattle.cascade.specs.Warnings.{applies_colour, applies_alpha};
-ghost use Rattle.cascade.specs.Walks.{Tests, gives, warned, warns};
+ghost use Rattle.cascade.specs.Walks.{Tests, gives, applies, warns};
 ghost use Rattle.values.specs.declared.Combiner.{Combiner};
 
 use crate::keys::{falls_back, is_bump, some, textured};
@@ -27,9 +27,9 @@ fn applies_alpha(s: Stage) -> bool
 }
 
 // A cause that a combiner gives counts where the stage applies that combiner.
-fn warned<F: Fn(Combiner) -> bool>(s: Stage, gives: F) -> bool
+fn applies<F: Fn(Combiner) -> bool>(s: Stage, gives: F) -> bool
     requires { F.IsAlwaysCallable gives }
-    ensures { (p : Combiner → Bool) → Tests (F.post gives) p → result ≡ warned p s }
+    ensures { (p : Combiner → Bool) → Tests (F.post gives) p → result ≡ applies p s }
 {
     (gives(s.colour) && applies_colour(s)) || (gives(s.alpha) && applies_alpha(s))
 }
@@ -50,19 +50,19 @@ fn modifier_cause(c: Combiner) -> bool
 pub(crate) fn warns_op(s: Stage) -> bool
     ensures { result ≡ warns op_cause s }
 {
-    warned(s, |c| without_text(c.op))
+    applies(s, |c| without_text(c.op))
 }
 
 #[tactic(auto, unfolding(crate::specs::Walks::warns))]
 pub(crate) fn warns_selector(s: Stage) -> bool
     ensures { result ≡ warns selector_cause s }
 {
-    warned(s, selector_cause)
+    applies(s, selector_cause)
 }
 
 #[tactic(auto, unfolding(crate::specs::Walks::warns))]
 pub(crate) fn warns_modifier(s: Stage) -> bool
     ensures { result ≡ warns modifier_cause s }
 {
-    warned(s, modifier_cause)
+    applies(s, modifier_cause)
 }

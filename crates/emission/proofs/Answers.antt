@@ -27,7 +27,7 @@ use Rattle.values.specs.Entries.{entry_good}
 use Rattle.values.specs.Words.{entry_reserved}
 use Rattle.values.specs.Admitted.{Admitted}
 use Rattle.shader.specs.Results.{text_of, in_front, buffer_after, alpha_warning, emitted_of, answer_of, emission_number}
-use Rattle.values.specs.Refusals.{number_in}
+use Rattle.values.specs.Refusals.{answer_number}
 use Rattle.shader.specs.Demand.{Demands, Demanded}
 use Rattle.values.specs.declared.Variant.{Variant}
 use Rattle.values.specs.declared.Entry.{Entry}
@@ -79,8 +79,8 @@ module _ (k : Key) (v : Variant) (e : Entry) (room : ℕ) where
   unfolding answer_of
   with_room h l = rw (h.stage_flags, h.variant_flags, h.entry_name, h.entry_word, le-ltb _ _ l)
 
-  pub numbered : {a : Result Emitted Refusal} → a ≡ answer_of k v e room → number_in a ≡ emission_number k v e room
-  numbered h = ap number_in h ∙ number_of_answer k v e room
+  pub numbered : {a : Result Emitted Refusal} → a ≡ answer_of k v e room → answer_number a ≡ emission_number k v e room
+  numbered h = ap answer_number h ∙ number_of_answer k v e room
 
 pub accepted : (k : Key) (v : Variant) (e : Entry) (u : Survey) (at lookups : ℕ) → effective_stages k ≡ k.stages → u ≡ survey_of k.stages
     → at ≡ length (text_of k v e) → lookups ≡ lookups_of u.live (active k.stages)
@@ -89,9 +89,7 @@ pub accepted : (k : Key) (v : Variant) (e : Entry) (u : Survey) (at lookups : �
       mask = u.mask;
       rows = u.rows;
       lookups = lookups;
-      op_warnings = u.op_warnings;
-      selector_warnings = u.selector_warnings;
-      modifier_warnings = u.modifier_warnings;
+      warnings = u.warnings;
       alpha_warning = alpha_warning v;
     }
     ≡ emitted_of k v e

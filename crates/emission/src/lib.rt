@@ -10,7 +10,7 @@ ghost use Rattle.shader.specs.Results.{answer_of, buffer_after, emission_number,
 ghost use Rattle.shader.specs.Whole.{whole_text};
 ghost use Rattle.shader.specs.Demand.{Demanded};
 ghost use Rattle.values.specs.Admitted.{Admitted};
-ghost use Rattle.values.specs.Refusals.{number_in};
+ghost use Rattle.values.specs.Refusals.{answer_number};
 
 use cascade::effective::effective;
 use cascade::surveyed::Surveyed;
@@ -58,7 +58,7 @@ pub fn emit_checked(
     ensures answer { result ≡ answer_of key variant entry (length out.old) }
     ensures buffer { out.new ≡ buffer_after result (text_of key variant entry) out.old }
     ensures names { Demanded key result out.new }
-    ensures number { number_in result ≡ emission_number key variant entry (length out.old) }
+    ensures number { answer_number result ≡ emission_number key variant entry (length out.old) }
 {
     let surveyed = Surveyed::new(key);
     let written = put_text(out, surveyed, variant, entry);
@@ -72,9 +72,7 @@ pub fn emit_checked(
         mask: u.mask,
         rows: u.rows,
         lookups: written.lookups,
-        op_warnings: u.op_warnings,
-        selector_warnings: u.selector_warnings,
-        modifier_warnings: u.modifier_warnings,
+        warnings: u.warnings,
         alpha_warning: ALWAYS < variant.alpha_func,
     })
 }
@@ -84,7 +82,7 @@ pub fn emit(key: Key, variant: Variant, entry: Entry, out: &mut [u8]) -> Result<
     ensures answer { result ≡ answer_of key variant entry (length out.old) }
     ensures buffer { out.new ≡ buffer_after result (text_of key variant entry) out.old }
     ensures names { Demanded key result out.new }
-    ensures number { number_in result ≡ emission_number key variant entry (length out.old) }
+    ensures number { answer_number result ≡ emission_number key variant entry (length out.old) }
 {
     if admission::stage_flags_bad(key) {
         return Err(Refusal::StageFlags);

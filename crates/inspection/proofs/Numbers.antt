@@ -9,7 +9,7 @@ use lib.Dec.{eqb}
 use lib.ListN.{get_or}
 use Rattle.std.specs.Prelude.{Result, Ok, Err}
 use Rattle.values.specs.Flags.{stage_flags_bad}
-use Rattle.values.specs.Refusals.{number_of, number_in}
+use Rattle.values.specs.Refusals.{number_of, answer_number}
 use Rattle.values.specs.declared.Refusal.{Refusal}
 use Rattle.values.specs.declared.Refusal.TheVariants.{CutShort, UnknownKind, StageFlags, SpecularAdd, VariantFlags, EntryName, EmitTooEarly, NoRoom}
 use Rattle.values.specs.declared.Refusal.TheVariants.{InputTooLong, ReservedWord, StageNumber, StateType, StateValue}
@@ -74,16 +74,16 @@ kind_back kind.Emit = refl
 kind_back kind.State = refl
 kind_back kind.WideKey = refl
 
-same_refusal : (r : Result Kind Refusal) (c : Refusal) → number_in r ≡ number_of c → r ≡ Err c
+same_refusal : (r : Result Kind Refusal) (c : Refusal) → answer_number r ≡ number_of c → r ≡ Err c
 same_refusal (Ok k) c e = absurd (not_zero c (sym e))
 same_refusal (Err d) c e = let same : d ≡ c = sym (refusal_back d) ∙ ap refusal_with e ∙ refusal_back c in cc
 
-same_kind : (r : Result Kind Refusal) (k : Kind) (x : ℕ) → number_in r ≡ 0 → x ≡ kind_byte k → ((j : Kind) → r ≡ Ok j → kind_from x ≡ Ok j) → r ≡ Ok k
+same_kind : (r : Result Kind Refusal) (k : Kind) (x : ℕ) → answer_number r ≡ 0 → x ≡ kind_byte k → ((j : Kind) → r ≡ Ok j → kind_from x ≡ Ok j) → r ≡ Ok k
 same_kind (Ok j) k x e f g = sym (g j refl) ∙ ap kind_from f ∙ kind_back k
 same_kind (Err c) k x e f g = absurd (not_zero c e)
 
 -- An answer with the number of the bytes, and with the kind of their first byte where it has one, is that of the record that is read.
-pub kind_answer : (b : List ℕ) (r : Result Kind Refusal) → number_in r ≡ record_number b → ((k : Kind) → r ≡ Ok k → kind_from (get_or b 0 0) ≡ Ok k)
+pub kind_answer : (b : List ℕ) (r : Result Kind Refusal) → answer_number r ≡ record_number b → ((k : Kind) → r ≡ Ok k → kind_from (get_or b 0 0) ≡ Ok k)
     → r ≡ kind_read (read_record b)
 kind_answer b r e f =
     read_either (λ (x : Result Reading Refusal). r ≡ kind_read x) b (λ c n. same_refusal r c (e ∙ n))

@@ -3,7 +3,7 @@
 //! As for the reader, a body is a slice and no array, which would ask more of callers.
 ghost use Rattle.std.specs.Prelude.{◌≤◌, ◌≡◌, cond, ltb, length};
 ghost use Rattle.values.specs.Flags.{stage_flags_bad};
-ghost use Rattle.values.specs.Refusals.{number_in};
+ghost use Rattle.values.specs.Refusals.{answer_number};
 ghost use Rattle.wire.specs.Bodies.{body_length, key_from_body, key_kind};
 ghost use Rattle.wire.specs.Reading.{body_number, read_record, record_number};
 ghost use Rattle.inspection.specs.Kinds.{kind_read};
@@ -40,7 +40,7 @@ fn key_flags_bad<const WIDE: bool>(body: &[u8]) -> bool
 #[tactic(auto, using(crate::proofs::Numbers::flags_refused, crate::proofs::Numbers::specular_refused, crate::proofs::Numbers::key_passed))]
 pub fn key_cause<const WIDE: bool>(body: &[u8]) -> Result<(), Refusal>
     requires { body_length (key_kind WIDE) ≤ length body.now }
-    ensures { number_in result ≡ body_number (key_kind WIDE) body.now }
+    ensures { answer_number result ≡ body_number (key_kind WIDE) body.now }
 {
     if key_flags_bad::<WIDE>(body) {
         return Err(Refusal::StageFlags);
@@ -54,7 +54,7 @@ pub fn key_cause<const WIDE: bool>(body: &[u8]) -> Result<(), Refusal>
 #[tactic(auto, unfolding(wire::specs::Reading::body_number, wire::specs::Bodies::variant_from_body))]
 pub fn variant_cause(body: &[u8]) -> Result<(), Refusal>
     requires { body_length Kind.Variant ≤ length body.now }
-    ensures { number_in result ≡ body_number Kind.Variant body.now }
+    ensures { answer_number result ≡ body_number Kind.Variant body.now }
 {
     if UNUSED_VARIANT_FLAG <= body[VARIANT_FLAGS_AT] {
         return Err(Refusal::VariantFlags);
@@ -65,7 +65,7 @@ pub fn variant_cause(body: &[u8]) -> Result<(), Refusal>
 #[tactic(auto, unfolding(wire::specs::Reading::body_number))]
 pub fn entry_cause(body: &[u8]) -> Result<(), Refusal>
     requires { body_length Kind.Entry ≤ length body.now }
-    ensures { number_in result ≡ body_number Kind.Entry body.now }
+    ensures { answer_number result ≡ body_number Kind.Entry body.now }
 {
     let entry = entry_from_body(body);
     if !entry_good(entry) {
@@ -80,7 +80,7 @@ pub fn entry_cause(body: &[u8]) -> Result<(), Refusal>
 #[tactic(auto, unfolding(wire::specs::Reading::body_number))]
 fn state_cause(body: &[u8]) -> Result<(), Refusal>
     requires { body_length Kind.State ≤ length body.now }
-    ensures { number_in result ≡ body_number Kind.State body.now }
+    ensures { answer_number result ≡ body_number Kind.State body.now }
 {
     check(state_from_body(body))
 }
@@ -88,7 +88,7 @@ fn state_cause(body: &[u8]) -> Result<(), Refusal>
 // Of the body of a kind at the front of some bytes. Each kind has causes of its own: a table of functions would be the same match.
 #[tactic(auto, unfolding(wire::specs::Reading::body_number))]
 pub fn kind_cause(kind: Kind, body: &[u8]) -> Result<(), Refusal>
-    ensures { number_in result ≡ cond (ltb (length body.now) (body_length kind)) 1 (body_number kind body.now) }
+    ensures { answer_number result ≡ cond (ltb (length body.now) (body_length kind)) 1 (body_number kind body.now) }
 {
     if body.len() < body_length(kind) {
         return Err(Refusal::CutShort);
@@ -107,7 +107,7 @@ pub fn kind_cause(kind: Kind, body: &[u8]) -> Result<(), Refusal>
 #[tactic(auto, unfolding(wire::specs::Reading::record_number))]
 pub fn record_kind(bytes: &[u8]) -> Result<Kind, Refusal>
     ensures kind { result ≡ kind_read (read_record bytes.now) }
-    ensures number { number_in result ≡ record_number bytes.now }
+    ensures number { answer_number result ≡ record_number bytes.now }
 {
     let (byte, body) = bytes.split_first().ok_or(Refusal::CutShort)?;
     let kind = Kind::try_from(*byte)?;

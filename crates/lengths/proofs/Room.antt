@@ -13,7 +13,7 @@ use Rattle.shader.proofs.Names.Truth.{and_fst}
 use Rattle.shader.proofs.Numbers.{number_of_answer}
 use Rattle.values.specs.Entries.{name_of, entry_good}
 use Rattle.values.specs.Flags.{stage_flags_bad, variant_flags_bad}
-use Rattle.values.specs.Refusals.{number_in}
+use Rattle.values.specs.Refusals.{answer_number}
 use Rattle.values.specs.Words.{entry_reserved}
 use Rattle.values.specs.declared.Entry.{Entry}
 use Rattle.values.specs.declared.Key.{Key}
@@ -51,4 +51,4 @@ module _ (k : Key) (v : Variant) (e : Entry) (n : ℕ) where
   -- a slot that is cut to the greatest length
   pub slot_never_no_room : Typed k v → Permitted e → greatest_length k.wide e.len ≤ n → answer_of k v e n ≡ Err NoRoom → ⊥
   slot_never_no_room t p h a =
-      number_not_eight (λ good. le_trans (at_most_greatest k v e t p) h) (sym (number_of_answer k v e n) ∙ ap number_in a)
+      number_not_eight (λ good. le_trans (at_most_greatest k v e t p) h) (sym (number_of_answer k v e n) ∙ ap answer_number a)

@@ -39,9 +39,9 @@ emit_short e =
       short e.mask,
       short e.rows,
       short e.lookups,
-      short e.op_warnings,
-      short e.selector_warnings,
-      short e.modifier_warnings,
+      short e.warnings.op,
+      short e.warnings.selector,
+      short e.warnings.modifier,
       yes_or_no e.alpha_warning,
     ))
 

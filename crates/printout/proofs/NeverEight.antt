@@ -11,7 +11,7 @@ use lib.Seq.{drop_at}
 use Rattle.text.specs.Text.{bytes, flat, decimal, decimal_of}
 use Rattle.std.specs.Prelude.{Result, Ok, Err}
 use Rattle.std.proofs.lemmas.Bool.{cond_both}
-use Rattle.values.specs.Refusals.{number_of, number_in}
+use Rattle.values.specs.Refusals.{number_of, answer_number}
 use Rattle.values.specs.declared.Refusal.{Refusal}
 use Rattle.values.specs.declared.Refusal.TheVariants as refusal
 use Rattle.records.specs.Applying.{nothing_held, all_held, text_held, apply_answer, held_after}
@@ -30,7 +30,7 @@ behind : (x : List ℕ) {out : List ℕ} → Ends out → Ends (x ++ out)
 behind x (ended before n) = subst Ends (append_assoc x before (end_line n)) (ended (x ++ before) n)
 behind x (refused before c p f) = subst Ends (append_assoc x before (refused_line c p)) (refused (x ++ before) c p f)
 
-printed_ends : (a : Result Applied Refusal) (p : ℕ) (h : Held) (go_on : ℕ → ℕ → List ℕ) → (number_in a ≡ 8 → ⊥) → ((m more : ℕ) → Ends (go_on m more)) →
+printed_ends : (a : Result Applied Refusal) (p : ℕ) (h : Held) (go_on : ℕ → ℕ → List ℕ) → (answer_number a ≡ 8 → ⊥) → ((m more : ℕ) → Ends (go_on m more)) →
     Ends (printed a p h go_on)
 unfolding printed
 printed_ends (Ok (Replaced m)) p h go_on f g = g m 0

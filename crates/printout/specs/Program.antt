@@ -22,9 +22,9 @@ text_room = 16384
 abbrev pub warnings_text : Emitted → Text
 warnings_text e =
     format "{op} {selector} {modifier} {alpha}"
-    (("op" ≔ decimal e.op_warnings)
-    ∷ ("selector" ≔ decimal e.selector_warnings)
-    ∷ ("modifier" ≔ decimal e.modifier_warnings)
+    (("op" ≔ decimal e.warnings.op)
+    ∷ ("selector" ≔ decimal e.warnings.selector)
+    ∷ ("modifier" ≔ decimal e.warnings.modifier)
     ∷ ("alpha" ≔ pick e.alpha_warning (lit "1") (lit "0"))
     ∷ [])
 

@@ -13,11 +13,11 @@ pub const LINE_LENGTH: usize = 160;
 fn put_warnings(out: &mut [u8], at: usize, emitted: Emitted) -> usize
     ensures { Wrote out.old at out.new result (warnings_text emitted) }
 {
-    let a = put_decimal(out, at, emitted.op_warnings as usize);
+    let a = put_decimal(out, at, emitted.warnings.op as usize);
     let b = put(out, a, b" ");
-    let c = put_decimal(out, b, emitted.selector_warnings as usize);
+    let c = put_decimal(out, b, emitted.warnings.selector as usize);
     let d = put(out, c, b" ");
-    let e = put_decimal(out, d, emitted.modifier_warnings as usize);
+    let e = put_decimal(out, d, emitted.warnings.modifier as usize);
     let f = put(out, e, b" ");
     put_either(out, f, emitted.alpha_warning, b"1", b"0")
 }

@@ -10,7 +10,7 @@ use Rattle.std.proofs.lemmas.Bool.{cond_both}
 use Rattle.values.specs.Flags.{stage_flags_bad, variant_flags_bad}
 use Rattle.values.specs.Entries.{entry_good}
 use Rattle.values.specs.Words.{entry_reserved}
-use Rattle.values.specs.Refusals.{number_of, number_in}
+use Rattle.values.specs.Refusals.{number_of, answer_number}
 use Rattle.values.specs.declared.Key.{Key}
 use Rattle.values.specs.declared.Variant.{Variant}
 use Rattle.values.specs.declared.Entry.{Entry}
@@ -48,21 +48,21 @@ positive StageNumber = refl
 positive StateType = refl
 positive StateValue = refl
 
-text_number : (n : ℕ) (a : Result Emitted Refusal) → number_in (text_answer n a) ≡ number_in a
+text_number : (n : ℕ) (a : Result Emitted Refusal) → answer_number (text_answer n a) ≡ answer_number a
 text_number n (Ok e) = refl
 text_number n (Err c) = refl
 
-values_number_lem : (x : Option Values) (room : ℕ) → number_in (emit_answer x room) ≡ values_number x room
+values_number_lem : (x : Option Values) (room : ℕ) → answer_number (emit_answer x room) ≡ values_number x room
 values_number_lem None room = refl
 values_number_lem (Some x) room = number_of_answer x.key x.variant x.entry room
 
-pub applied_number_lem : {a : Result Applied Refusal} (h : Held) (b : List ℕ) (room : ℕ) → a ≡ apply_answer h b room → number_in a ≡ applied_number h b room
+pub applied_number_lem : {a : Result Applied Refusal} (h : Held) (b : List ℕ) (room : ℕ) → a ≡ apply_answer h b room → answer_number a ≡ applied_number h b room
 applied_number_lem h b room e =
-    ap number_in e
-    ∙ read_either (λ (x : Result Reading Refusal). number_in (apply_read x h room) ≡ applied_number h b room) b
+    ap answer_number e
+    ∙ read_either (λ (x : Result Reading Refusal). answer_number (apply_read x h room) ≡ applied_number h b room) b
     (λ c n. rw (n, positive c)) taken
   where
-    taken : (r : Record) → Taken b r → number_in (apply_as r (record_length (kind_of r)) h room) ≡ applied_number h b room
+    taken : (r : Record) → Taken b r → answer_number (apply_as r (record_length (kind_of r)) h room) ≡ applied_number h b room
     taken (rec.Key k) t = rw (t.number, t.first)
     taken (rec.Variant v) t = rw (t.number, t.first)
     taken (rec.Entry e) t = rw (t.number, t.first)
@@ -103,7 +103,7 @@ pub emission_cases : (P : Result Emitted Refusal → Type 0) (k : Key) (v : Vari
     P (answer_of k v e room)
 unfolding answer_of
 emission_cases P k v e room f g =
-    by_tests (λ (a : Result Emitted Refusal). number_in a ≡ emission_number k v e room → P a) (emitted_of k v e)
+    by_tests (λ (a : Result Emitted Refusal). answer_number a ≡ emission_number k v e room → P a) (emitted_of k v e)
     (stage_flags_bad k.stages) (variant_flags_bad v) (not (entry_good e)) (entry_reserved e) (ltb room (length (text_of k v e)))
     (λ c n. f c (sym n)) (λ n. g (sym n)) (number_of_answer k v e room)
 
@@ -117,7 +117,7 @@ pub record ApplyCases (P : Result Applied Refusal → Type 0) (h : Held) (b : Li
 module _ (P : Result Applied Refusal → Type 0) (h : Held) (b : List ℕ) (room : ℕ) (cases : ApplyCases P h b room) where
   -- P, where the number of an answer is that of the table
   abbrev Q : Result Applied Refusal → Type 0
-  Q a = number_in a ≡ applied_number h b room → P a
+  Q a = answer_number a ≡ applied_number h b room → P a
 
   emitted : 1 ≤ length b → (x : Option Values) → all_held h ≡ x → Q (text_answer 1 (emit_answer x room))
   emitted w None e = λ n. cases.refusal EmitTooEarly (sym n)

@@ -12,7 +12,7 @@ use Rattle.std.proofs.lemmas.Bool.{cond_both}
 use Rattle.values.specs.Flags.{stage_flags_bad, variant_flags_bad}
 use Rattle.values.specs.Entries.{entry_good}
 use Rattle.values.specs.Words.{entry_reserved}
-use Rattle.values.specs.Refusals.{number_in}
+use Rattle.values.specs.Refusals.{answer_number}
 use Rattle.values.specs.declared.Key.{Key}
 use Rattle.values.specs.declared.Variant.{Variant}
 use Rattle.values.specs.declared.Entry.{Entry}
@@ -31,7 +31,7 @@ use Rattle.wire.specs.declared.Record.TheVariants as rec
 use Rattle.wire.specs.declared.Reading.{Reading}
 use Rattle.wire.proofs.Bodies.{Shaped}
 use Rattle.wire.proofs.Found.{kind_cases, read_either}
-use Rattle.records.specs.Applying.{nothing_held, all_of, or_defaults, key_or_defaults, holding, held_with, held_after, apply_answer}
+use Rattle.records.specs.Applying.{nothing_held, all_of, or_defaults, key_or_defaults, holding, held_by, held_after, apply_answer}
 use Rattle.records.specs.Applying.{values_number, emit_number, applied_number}
 use Rattle.records.specs.declared.Held.{Held}
 use Rattle.records.proofs.Answers.{applied_number_lem}
@@ -59,7 +59,7 @@ holding_eight (rec.State w) h s t = let e = start_eight h t in (kept w (key_or_d
 holding_eight (rec.WideKey k) h s t = s
 
 pub applied_eight : (h : Held) (b : List ℕ) → EightStages h → EightStages (held_after h b)
-applied_eight h b t = read_either (λ (x : Result Reading Refusal). EightStages (held_with x h)) b (λ c n. t) (λ r s. holding_eight r h s.shaped t)
+applied_eight h b t = read_either (λ (x : Result Reading Refusal). EightStages (held_by x h)) b (λ c n. t) (λ r s. holding_eight r h s.shaped t)
 
 -- Which numbers are not 8: of a choice both, of the reader all, of an emit record those that leave room.
 abbrev NotEight : ℕ → Type 0
@@ -110,7 +110,7 @@ module _ (h : Held) (stages : EightStages h) (room : ℕ) (enough : 16384 ≤ ro
   number : (b : List ℕ) → NotEight (applied_number h b room)
   number b = neither (eqb (record_number b) 0) _ _ (neither (eqb (get_or b 0 0) 4) _ 0 emit_number_lem refl) (record_number_lem b)
 
-  pub applied_never_eight : (b : List ℕ) → number_in (apply_answer h b room) ≡ 8 → ⊥
+  pub applied_never_eight : (b : List ℕ) → answer_number (apply_answer h b room) ≡ 8 → ⊥
   applied_never_eight b e =
       let n : applied_number h b room ≡ 8 = sym (applied_number_lem h b room refl) ∙ e in
       true≢false (rw n at (number b))

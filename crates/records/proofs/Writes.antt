@@ -20,7 +20,7 @@ use Rattle.wire.specs.Reading.{took, read_body, read_as, read_record}
 use Rattle.wire.specs.declared.Record.TheVariants as rec
 use Rattle.wire.specs.declared.Reading.{Reading}
 use Rattle.wire.proofs.Bodies.{state_back}
-use Rattle.records.specs.Applying.{nothing_held, key_or_defaults, holding_key, holding, held_with, held_after}
+use Rattle.records.specs.Applying.{nothing_held, key_or_defaults, holding_key, holding, held_by, held_after}
 use Rattle.records.specs.declared.Held.{Held}
 use Rattle.records.proofs.Room.{EightStages, start_eight}
 
@@ -37,9 +37,9 @@ read_write w = rw (state_back w [])
 -- one write: it is done, or all is left
 pub one_held : (w : StateWrite) (h : Held) → held_after h (record_bytes (rec.State w)) ≡ cond (accepted w) (holding (rec.State w) h) h
 one_held w h =
-    ap (λ (x : Result Reading Refusal). held_with x h) (read_write w)
+    ap (λ (x : Result Reading Refusal). held_by x h) (read_write w)
     ∙ check_cases
-    (λ (a : Bool) (n : ℕ) (c : Result (Unit {0}) Refusal). held_with (c >>= λ _. took (rec.State w)) h ≡ cond a (holding (rec.State w) h) h)
+    (λ (a : Bool) (n : ℕ) (c : Result (Unit {0}) Refusal). held_by (c >>= λ _. took (rec.State w)) h ≡ cond a (holding (rec.State w) h) h)
     w (λ c. refl) (λ _. refl)
 
 -- A key is held if one was, or once a write is accepted: the key that the list makes of the one that a write alters.

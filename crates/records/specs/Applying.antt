@@ -94,12 +94,12 @@ abbrev pub apply_answer : Held → List ℕ → ℕ → Result Applied Refusal
 apply_answer h b room = apply_read (read_record b) h room
 
 -- 01: "`all` means that every lent byte and the held key, variant and entry are as before the call."
-abbrev pub held_with : Result Reading Refusal → Held → Held
-held_with (Ok x) h = holding x.record h
-held_with (Err c) h = h
+abbrev pub held_by : Result Reading Refusal → Held → Held
+held_by (Ok x) h = holding x.record h
+held_by (Err c) h = h
 
 abbrev pub held_after : Held → List ℕ → Held
-held_after h b = held_with (read_record b) h
+held_after h b = held_by (read_record b) h
 
 -- the text of the values; before all three are held there is none
 abbrev pub text_held : Option Values → List ℕ

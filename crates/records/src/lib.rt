@@ -2,7 +2,7 @@
 #![tactic(auto)]
 
 ghost use Rattle.std.specs.Prelude.{◌≡◌, length, OnErr};
-ghost use Rattle.values.specs.Refusals.{number_in};
+ghost use Rattle.values.specs.Refusals.{answer_number};
 ghost use Rattle.records.specs.Applying.{AppliedDemands, all_held, applied_number, apply_answer, emit_answer, emit_number};
 ghost use Rattle.records.specs.Applying.{held_after, holding, key_or_defaults, nothing_held, text_after, text_answer};
 
@@ -69,7 +69,7 @@ impl Held {
         ensures answer { result ≡ emit_answer (all_held self.now) (length text.old) }
         ensures buffer { text.new ≡ text_after (text_answer 0 result) self.now text.old }
         ensures names { AppliedDemands self.now (text_answer 0 result) text.new }
-        ensures number { number_in result ≡ emit_number self.now (length text.old) }
+        ensures number { answer_number result ≡ emit_number self.now (length text.old) }
     {
         let (Some(key), Some(variant), Some(entry)) = (self.key, self.variant, self.entry) else {
             return Err(Refusal::EmitTooEarly);
@@ -85,7 +85,7 @@ impl Held {
         ensures refused { OnErr result (self.new ≡ self.old) }
         ensures buffer { text.new ≡ text_after result self.old text.old }
         ensures names { AppliedDemands self.old result text.new }
-        ensures number { number_in result ≡ applied_number self.old bytes.now (length text.old) }
+        ensures number { answer_number result ≡ applied_number self.old bytes.now (length text.old) }
     {
         let Reading { record, length } = read(bytes)?;
         if let Record::Emit = record {

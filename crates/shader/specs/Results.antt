@@ -2,11 +2,10 @@
 use Rattle.std.specs.Prelude.{ℕ, Bool, not, cond, List, [], ◌++◌, leb, ltb, length, take, drop, Result, Ok, Err}
 use Rattle.text.specs.Text.{flat}
 use Rattle.combiners.specs.Codes.{always}
-use Rattle.combiners.specs.Warnings.{op_cause, selector_cause, modifier_cause}
 use Rattle.cascade.specs.Keys.{mask_of, rows_of}
 use Rattle.cascade.specs.Effective.{active_stages, effective}
 use Rattle.cascade.specs.Reading.{live, lookups_of}
-use Rattle.cascade.specs.Warnings.{warned_stages}
+use Rattle.cascade.specs.Warnings.{warnings_of}
 use Rattle.values.specs.declared.Key.{Key}
 use Rattle.values.specs.Flags.{stage_flags_bad, variant_flags_bad}
 use Rattle.values.specs.Entries.{entry_good}
@@ -33,9 +32,7 @@ emitted_of k v e =
       mask = mask_of (active_stages k);
       rows = rows_of (active_stages k);
       lookups = lookups_of (live (active_stages k)) (active_stages k);
-      op_warnings = warned_stages op_cause (active_stages k);
-      selector_warnings = warned_stages selector_cause (active_stages k);
-      modifier_warnings = warned_stages modifier_cause (active_stages k);
+      warnings = warnings_of (active_stages k);
       alpha_warning = alpha_warning v;
     }
 

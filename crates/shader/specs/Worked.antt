@@ -197,8 +197,8 @@ contains p (y ∷ t) = begins p (y ∷ t) || contains p t
 -- the masks of ops, selectors and modifiers, and whether the alpha function warns
 abbrev pub warned : ℕ → ℕ → ℕ → Bool → Emitted → Bool
 warned o s m a e =
-    eqb e.op_warnings o
-    && (eqb e.selector_warnings s && (eqb e.modifier_warnings m && cond a e.alpha_warning (not e.alpha_warning)))
+    eqb e.warnings.op o
+    && (eqb e.warnings.selector s && (eqb e.warnings.modifier m && cond a e.alpha_warning (not e.alpha_warning)))
 
 abbrev pub holds : Worked → Named → Bool
 holds w (whole ls) = same (lines_of ls) (text_of (worked_key w) (worked_variant w) entry_m)

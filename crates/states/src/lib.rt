@@ -3,7 +3,7 @@
 
 ghost use Rattle.std.specs.Prelude.{◌≡◌, cond};
 ghost use Rattle.values.specs.Kinds.{seven_bytes, three_bytes};
-ghost use Rattle.values.specs.Refusals.{number_in};
+ghost use Rattle.values.specs.Refusals.{answer_number};
 ghost use Rattle.states.specs.Types.{sets_arg0};
 ghost use Rattle.states.specs.States.{default_combiner, default_stage, defaults, set_stage, stages_for, wide_stages};
 ghost use Rattle.states.specs.Writes.{checked_write, got_state, state_write_number, write_applied};
@@ -33,7 +33,7 @@ pub fn sets_arg0(state: u8) -> bool
 #[tactic(auto, unfolding(crate::specs::Writes::checked_write, crate::specs::Writes::state_write_number))]
 pub fn check(write: StateWrite) -> Result<(), Refusal>
     ensures answer { result ≡ checked_write write }
-    ensures number { number_in result ≡ state_write_number write }
+    ensures number { answer_number result ≡ state_write_number write }
 {
     if LAST_STAGE < write.stage {
         return Err(Refusal::StageNumber);

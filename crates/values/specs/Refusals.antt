@@ -23,6 +23,6 @@ number_of StateType = 11
 number_of StateValue = 12
 
 -- the number of what a call answers: 0 where it accepts
-abbrev pub number_in : {A : Type 0} → Result A Refusal → ℕ
-number_in (Ok x) = 0
-number_in (Err c) = number_of c
+abbrev pub answer_number : {A : Type 0} → Result A Refusal → ℕ
+answer_number (Ok x) = 0
+answer_number (Err c) = number_of c

@@ -4,7 +4,7 @@
 pub mod staged;
 
 ghost use Rattle.std.specs.Prelude.{◌≡◌, ◌<◌, ℕ};
-ghost use Rattle.values.specs.Refusals.{number_in, number_of};
+ghost use Rattle.values.specs.Refusals.{answer_number, number_of};
 
 use std::marker::Model;
 
@@ -67,16 +67,22 @@ pub struct StateWrite {
     pub value: u32,
 }
 
-// What an accepted emission reports of its text. The masks, of textured stages and of those that warn, have bit i for stage i.
+// The stages that warn, bit i for stage i, in a mask for each cause.
+#[derive(Clone, Copy, Default)]
+pub struct Warnings {
+    pub op: u8,
+    pub selector: u8,
+    pub modifier: u8,
+}
+
+// What an accepted emission reports of its text. The mask, of textured stages, has bit i for stage i.
 #[derive(Clone, Copy)]
 pub struct Emitted {
     pub length: usize,
     pub mask: u8,
     pub rows: u8,
     pub lookups: u8,
-    pub op_warnings: u8,
-    pub selector_warnings: u8,
-    pub modifier_warnings: u8,
+    pub warnings: Warnings,
     pub alpha_warning: bool,
 }
 
@@ -112,22 +118,22 @@ impl StageIndex {
     }
 }
 
-// Why a call is refused: 1 to 9 in order, then 13, then 10 to 12.
+// Why a call is refused, with the number of each.
 #[derive(Clone, Copy)]
 pub enum Refusal {
-    CutShort,
-    UnknownKind,
-    StageFlags,
-    SpecularAdd,
-    VariantFlags,
-    EntryName,
-    EmitTooEarly,
-    NoRoom,
-    InputTooLong,
-    ReservedWord,
-    StageNumber,
-    StateType,
-    StateValue,
+    CutShort = 1,
+    UnknownKind = 2,
+    StageFlags = 3,
+    SpecularAdd = 4,
+    VariantFlags = 5,
+    EntryName = 6,
+    EmitTooEarly = 7,
+    NoRoom = 8,
+    InputTooLong = 9,
+    StageNumber = 10,
+    StateType = 11,
+    StateValue = 12,
+    ReservedWord = 13,
 }
 
 // The number of a refusal.
@@ -135,27 +141,13 @@ impl From<Refusal> for u8 {
     ghost from_gives = { λ refusal number. number ≡ number_of refusal };
 
     fn from(refusal: Refusal) -> u8 {
-        match refusal {
-            Refusal::CutShort => 1,
-            Refusal::UnknownKind => 2,
-            Refusal::StageFlags => 3,
-            Refusal::SpecularAdd => 4,
-            Refusal::VariantFlags => 5,
-            Refusal::EntryName => 6,
-            Refusal::EmitTooEarly => 7,
-            Refusal::NoRoom => 8,
-            Refusal::InputTooLong => 9,
-            Refusal::ReservedWord => 13,
-            Refusal::StageNumber => 10,
-            Refusal::StateType => 11,
-            Refusal::StateValue => 12,
-        }
+        refusal as u8
     }
 }
 
 // The number of a call: that of its refusal, or 0.
 pub fn number<T: Drop>(answer: Result<T, Refusal>) -> u8
-    ensures { result ≡ number_in answer }
+    ensures { result ≡ answer_number answer }
 {
     match answer {
         Ok(_) => 0,

@@ -8,7 +8,7 @@ use borrow.Author.Tests.{eqb-true, ltb-false}
 use lib.Dec.{eqb, ltb}
 use lib.ListN.{length, take, drop, get_or, take-append-drop}
 use Rattle.std.specs.Prelude.{Result, Ok, Err}
-use Rattle.values.specs.Refusals.{number_of, number_in}
+use Rattle.values.specs.Refusals.{number_of, answer_number}
 use Rattle.values.specs.declared.Refusal.{Refusal}
 use Rattle.values.specs.declared.Refusal.TheVariants.{CutShort, UnknownKind, SpecularAdd}
 use Rattle.values.specs.declared.Key.{Key}
@@ -149,8 +149,8 @@ module _ (P : Result Reading Refusal → Type 0) (b : List ℕ) (cases : Cases P
   read_cases = read_either P b cases.refusal taken_cases
 
 -- The reader's number is that of 01's table.
-pub read_number_lem : {a : Result Reading Refusal} (b : List ℕ) → a ≡ read_record b → number_in a ≡ record_number b
-read_number_lem b e = ap number_in e ∙ read_either (λ (a : Result Reading Refusal). number_in a ≡ record_number b) b (λ c n. sym n) (λ r t. sym t.number)
+pub read_number_lem : {a : Result Reading Refusal} (b : List ℕ) → a ≡ read_record b → answer_number a ≡ record_number b
+read_number_lem b e = ap answer_number e ∙ read_either (λ (a : Result Reading Refusal). answer_number a ≡ record_number b) b (λ c n. sym n) (λ r t. sym t.number)
 
 -- what a record that was read tells
 pub read_taken : (b : List ℕ) (r : Reading) → read_record b ≡ Ok r → Taken b r.«record» × (record_length (kind_of r.«record») ≡ r.length)

@@ -5,7 +5,7 @@ use native.Mathlib.Omega.{arith}
 use borrow.Author.Tests.{le-ltb, ltb-false}
 use lib.Dec.{ltb}
 use Rattle.std.specs.Prelude.{Result, Ok, Err}
-use Rattle.values.specs.Refusals.{number_of, number_in}
+use Rattle.values.specs.Refusals.{number_of, answer_number}
 use Rattle.values.specs.declared.Refusal.{Refusal}
 use Rattle.values.specs.declared.Refusal.TheVariants.{NoRoom}
 use Rattle.wire.specs.Steps.{◌>>=◌}
@@ -39,9 +39,9 @@ module _ (P : Result ℕ Refusal → Type 0) (r : Record) (room : ℕ) where
       refl
 
 -- The writer's number is that of 01's table.
-pub write_number_lem : {a : Result ℕ Refusal} (r : Record) (room : ℕ) → a ≡ write_answer r room → number_in a ≡ written_number r room
+pub write_number_lem : {a : Result ℕ Refusal} (r : Record) (room : ℕ) → a ≡ write_answer r room → answer_number a ≡ written_number r room
 write_number_lem r room e =
-    ap number_in e ∙ write_cases (λ (a : Result ℕ Refusal). number_in a ≡ written_number r room) r room (λ c n. sym n) (λ w. sym w.number)
+    ap answer_number e ∙ write_cases (λ (a : Result ℕ Refusal). answer_number a ≡ written_number r room) r room (λ c n. sym n) (λ w. sym w.number)
 
 -- what the answer `Ok` tells
 pub wrote : (r : Record) (room n : ℕ) → write_answer r room ≡ Ok n → Written r room × (record_length (kind_of r) ≡ n)

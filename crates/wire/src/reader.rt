@@ -2,7 +2,7 @@
 //!
 //! A body is a slice that may go on behind its kind's length, which a `requires` names: an array would ask more of callers.
 ghost use Rattle.std.specs.Prelude.{◌+◌, ◌*◌, ◌≤◌, ◌<◌, ◌≡◌, drop, length};
-ghost use Rattle.values.specs.Refusals.{number_in};
+ghost use Rattle.values.specs.Refusals.{answer_number};
 ghost use Rattle.wire.specs.Bodies.{body_length, entry_from_body, key_from_body, key_kind, mask_at, record_from_body, specular_at};
 ghost use Rattle.wire.specs.Bodies.{stage_from_bytes, stage_size, stages_from_bytes, state_from_body, variant_from_body};
 ghost use Rattle.wire.specs.Reading.{read_as, read_record, record_number, specular_in};
@@ -189,7 +189,7 @@ fn read_as(kind: Kind, body: &[u8]) -> Result<Reading, Refusal>
 #[tactic(auto, unfolding(crate::specs::Reading::read_record, crate::specs::Reading::record_number), using(crate::proofs::Found::read_number_lem))]
 pub fn read(bytes: &[u8]) -> Result<Reading, Refusal>
     ensures record { result ≡ read_record bytes.now }
-    ensures number { number_in result ≡ record_number bytes.now }
+    ensures number { answer_number result ≡ record_number bytes.now }
 {
     let Some((byte, body)) = bytes.split_first() else {
         return Err(Refusal::CutShort);

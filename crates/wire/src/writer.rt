@@ -2,7 +2,7 @@
 ghost use Rattle.std.specs.Prelude.{◌≡◌, ◌≤◌, ◌++◌, drop, length};
 ghost use Rattle.text.specs.Text.{raw};
 ghost use Rattle.text.specs.Buffer.{Wrote};
-ghost use Rattle.values.specs.Refusals.{number_in};
+ghost use Rattle.values.specs.Refusals.{answer_number};
 ghost use Rattle.wire.specs.Bodies.{body_bytes, body_length, kind_of, record_bytes, record_length};
 ghost use Rattle.wire.specs.Bodies.{entry_bytes, key_bytes, mask_bytes, masks_bytes, stage_bytes, stages_bytes, state_bytes, variant_bytes};
 ghost use Rattle.wire.specs.Writing.{after_writing, write_answer, written_number};
@@ -112,7 +112,7 @@ fn put_record(out: &mut [u8], record: Record)
 pub fn write(record: Record, out: &mut [u8]) -> Result<usize, Refusal>
     ensures answer { result ≡ write_answer «record» (length out.old) }
     ensures buffer { out.new ≡ after_writing result (record_bytes «record») out.old }
-    ensures number { number_in result ≡ written_number «record» (length out.old) }
+    ensures number { answer_number result ≡ written_number «record» (length out.old) }
 {
     check_record(record)?;
     let n = record_length(record.kind());

@@ -7,7 +7,7 @@ use native.Mathlib.Omega.{arith}
 use lib.Dec.{eqb, ltb}
 use lib.ListN.{length}
 use Rattle.std.specs.Prelude.{Result, Ok, Err}
-use Rattle.values.specs.Refusals.{number_of, number_in}
+use Rattle.values.specs.Refusals.{number_of, answer_number}
 use Rattle.values.specs.Flags.{stage_flags_bad, variant_flags_bad}
 use Rattle.values.specs.Entries.{entry_good}
 use Rattle.values.specs.Words.{entry_reserved}
@@ -46,7 +46,7 @@ module _ (k : Key) (v : Variant) (e : Entry) (out res : List ℕ) where
   abbrev Promise : Result Emitted Refusal → List ℕ → Type 0
   Promise a out' =
       (a ≡ answer_of k v e (length out))
-      × ((out' ≡ buffer_after a (text_of k v e) out) × (Demanded k a out' × (number_in a ≡ emission_number k v e (length out))))
+      × ((out' ≡ buffer_after a (text_of k v e) out) × (Demanded k a out' × (answer_number a ≡ emission_number k v e (length out))))
 
   picked : (three five six thirteen eight : Bool) (x m : Emitted) →
       cond three (Err StageFlags) (cond five (Err VariantFlags) (cond six (Err EntryName) (cond thirteen (Err ReservedWord)

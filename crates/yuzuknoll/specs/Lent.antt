@@ -29,9 +29,9 @@ result_numbers m =
     ∷ m.mask
     ∷ m.rows
     ∷ m.lookups
-    ∷ m.op_warnings
-    ∷ m.selector_warnings
-    ∷ m.modifier_warnings
+    ∷ m.warnings.op
+    ∷ m.warnings.selector
+    ∷ m.warnings.modifier
     ∷ cond m.alpha_warning 1 0
     ∷ []
 
@@ -43,9 +43,7 @@ result_of l =
       mask = get_or l 1 0;
       rows = get_or l 2 0;
       lookups = get_or l 3 0;
-      op_warnings = get_or l 4 0;
-      selector_warnings = get_or l 5 0;
-      modifier_warnings = get_or l 6 0;
+      warnings = record { op = get_or l 4 0; selector = get_or l 5 0; modifier = get_or l 6 0 };
       alpha_warning = eqb (get_or l 7 0) 1;
     }
 

@@ -2,7 +2,7 @@
 ghost use Rattle.std.specs.Prelude.{◌+◌, ◌≤◌, ◌≡◌, ◌++◌, drop, length, take};
 ghost use Rattle.std.proofs.lemmas.List.Edits.{sets};
 ghost use Rattle.records.specs.Applying.{applied_number, emit_number};
-ghost use Rattle.values.specs.Refusals.{number_in};
+ghost use Rattle.values.specs.Refusals.{answer_number};
 ghost use Rattle.wire.specs.Bodies.{record_length};
 ghost use Rattle.wire.specs.Reading.{record_number};
 ghost use Rattle.yuzuknoll.specs.Lent.{after, record_numbers};
@@ -32,10 +32,10 @@ fn emit_held(
     text: &mut [u8],
     res: &mut [u64; RESULT_LENGTH],
 ) -> Result<(), Refusal>
-    ensures number { number_in result ≡ emit_number (held_of held.now) (length text.old) }
-    ensures text { text.new ≡ after (number_in result) (text_with Kind.Emit (held_of held.now) text.old) text.old }
-    ensures res { res.new ≡ after (number_in result) (result_with Kind.Emit (held_of held.now)) res.old }
-    ensures names { number_in result ≡ 0 → HeldReported (held_of held.now) text.new res.new }
+    ensures number { answer_number result ≡ emit_number (held_of held.now) (length text.old) }
+    ensures text { text.new ≡ after (answer_number result) (text_with Kind.Emit (held_of held.now) text.old) text.old }
+    ensures res { res.new ≡ after (answer_number result) (result_with Kind.Emit (held_of held.now)) res.old }
+    ensures names { answer_number result ≡ 0 → HeldReported (held_of held.now) text.new res.new }
 {
     let body = &held[KEY_BODY..VARIANT_PLACE];
     let key = read_key::<false>(body);
@@ -74,11 +74,11 @@ fn do_record(
     requires number { record_number bytes.now ≡ 0 }
     requires kind { kind ≡ kind_in bytes.now }
     requires res { res.old ≡ no_result }
-    ensures number { number_in result ≡ on_emit kind (emit_number (held_of held.old) (length text.old)) 0 }
-    ensures held { held.new ≡ after (number_in result) (held_with kind bytes.now held.old) held.old }
-    ensures text { text.new ≡ after (number_in result) (text_with kind (held_of held.old) text.old) text.old }
-    ensures res { res.new ≡ after (number_in result) (result_with kind (held_of held.old)) no_result }
-    ensures names { number_in result ≡ 0 → kind ≡ Kind.Emit → HeldReported (held_of held.old) text.new res.new }
+    ensures number { answer_number result ≡ on_emit kind (emit_number (held_of held.old) (length text.old)) 0 }
+    ensures held { held.new ≡ after (answer_number result) (held_with kind bytes.now held.old) held.old }
+    ensures text { text.new ≡ after (answer_number result) (text_with kind (held_of held.old) text.old) text.old }
+    ensures res { res.new ≡ after (answer_number result) (result_with kind (held_of held.old)) no_result }
+    ensures names { answer_number result ≡ 0 → kind ≡ Kind.Emit → HeldReported (held_of held.old) text.new res.new }
 {
     match kind {
         Kind::Emit => return emit_held(held, text, res),
@@ -102,11 +102,11 @@ fn apply(
     text: &mut [u8],
     applied: &mut [u64; APPLIED_LENGTH],
 ) -> Result<(), Refusal>
-    ensures number { number_in result ≡ applied_number (held_of held.old) bytes.now (length text.old) }
-    ensures held { held.new ≡ after (number_in result) (held_with (kind_in bytes.now) bytes.now held.old) held.old }
-    ensures text { text.new ≡ after (number_in result) (text_with (kind_in bytes.now) (held_of held.old) text.old) text.old }
-    ensures applied { applied.new ≡ after (number_in result) (applied_numbers (kind_in bytes.now) (held_of held.old)) applied.old }
-    ensures names { number_in result ≡ 0 → kind_in bytes.now ≡ Kind.Emit →
+    ensures number { answer_number result ≡ applied_number (held_of held.old) bytes.now (length text.old) }
+    ensures held { held.new ≡ after (answer_number result) (held_with (kind_in bytes.now) bytes.now held.old) held.old }
+    ensures text { text.new ≡ after (answer_number result) (text_with (kind_in bytes.now) (held_of held.old) text.old) text.old }
+    ensures applied { applied.new ≡ after (answer_number result) (applied_numbers (kind_in bytes.now) (held_of held.old)) applied.old }
+    ensures names { answer_number result ≡ 0 → kind_in bytes.now ≡ Kind.Emit →
         HeldReported (held_of held.old) text.new (drop 2 applied.new) }
 {
     let kind = record_kind(bytes)?;

@@ -1,7 +1,7 @@
 //! Emission from the bodies of a key, a variant and an entry. The C interface lends the text and its result apart.
 ghost use Rattle.std.specs.Prelude.{◌≤◌, ◌≡◌, false, true, length};
 ghost use Rattle.values.specs.Admitted.{Admitted};
-ghost use Rattle.values.specs.Refusals.{number_in};
+ghost use Rattle.values.specs.Refusals.{answer_number};
 ghost use Rattle.cascade.specs.Effective.{effective_stages};
 ghost use Rattle.shader.specs.Results.{emission_number, emitted_of, text_of};
 ghost use Rattle.wire.specs.Bodies.{body_length, key_from_body, key_kind};
@@ -37,9 +37,9 @@ fn report(emitted: Emitted, res: &mut [u64; RESULT_LENGTH])
         emitted.mask as u64,
         emitted.rows as u64,
         emitted.lookups as u64,
-        emitted.op_warnings as u64,
-        emitted.selector_warnings as u64,
-        emitted.modifier_warnings as u64,
+        emitted.warnings.op as u64,
+        emitted.warnings.selector as u64,
+        emitted.warnings.modifier as u64,
         emitted.alpha_warning as u64,
     ];
 }
@@ -53,10 +53,10 @@ pub(crate) fn emit_values(
     res: &mut [u64; RESULT_LENGTH],
 ) -> Result<(), Refusal>
     requires { (effective_stages key ≡ key.stages) × Admitted key variant entry }
-    ensures number { number_in result ≡ emission_number key variant entry (length text.old) }
-    ensures text { text.new ≡ after (number_in result) (at_front (text_of key variant entry) text.old) text.old }
-    ensures res { res.new ≡ after (number_in result) (result_numbers (emitted_of key variant entry)) res.old }
-    ensures names { number_in result ≡ 0 → ReportedDemands key text.new res.new }
+    ensures number { answer_number result ≡ emission_number key variant entry (length text.old) }
+    ensures text { text.new ≡ after (answer_number result) (at_front (text_of key variant entry) text.old) text.old }
+    ensures res { res.new ≡ after (answer_number result) (result_numbers (emitted_of key variant entry)) res.old }
+    ensures names { answer_number result ≡ 0 → ReportedDemands key text.new res.new }
 {
     let emitted = emit_checked(key, variant, entry, text)?;
     report(emitted, res);
@@ -73,10 +73,10 @@ pub(crate) fn emit_rewritten(
     res: &mut [u64; RESULT_LENGTH],
 ) -> Result<(), Refusal>
     requires { (body_length Kind.Key ≤ length body.now) × Admitted (key_from_body false body.now) variant entry }
-    ensures number { number_in result ≡ emission_number (key_from_body false body.now) variant entry (length text.old) }
-    ensures text { text.new ≡ after (number_in result) (at_front (text_of (key_from_body false body.now) variant entry) text.old) text.old }
-    ensures res { res.new ≡ after (number_in result) (result_numbers (emitted_of (key_from_body false body.now) variant entry)) res.old }
-    ensures names { number_in result ≡ 0 → ReportedDemands (key_from_body false body.now) text.new res.new }
+    ensures number { answer_number result ≡ emission_number (key_from_body false body.now) variant entry (length text.old) }
+    ensures text { text.new ≡ after (answer_number result) (at_front (text_of (key_from_body false body.now) variant entry) text.old) text.old }
+    ensures res { res.new ≡ after (answer_number result) (result_numbers (emitted_of (key_from_body false body.now) variant entry)) res.old }
+    ensures names { answer_number result ≡ 0 → ReportedDemands (key_from_body false body.now) text.new res.new }
 {
     let key = effective(key_from_body::<false>(body));
     emit_values(key, variant, entry, text, res)
@@ -101,7 +101,7 @@ fn bodies_cause<const WIDE: bool>(
     entry: &[u8; ENTRY_LENGTH],
 ) -> Result<(), Refusal>
     requires { body_length (key_kind WIDE) ≤ length key.now }
-    ensures { number_in result
+    ensures { answer_number result
         ≡ first_of (body_number (key_kind WIDE) key.now) (first_of (body_number Kind.Variant variant.now) (body_number Kind.Entry entry.now)) }
 {
     key_cause::<WIDE>(key)?;
@@ -118,11 +118,11 @@ fn emit_bodies<const WIDE: bool>(
     res: &mut [u64; RESULT_LENGTH],
 ) -> Result<(), Refusal>
     requires { body_length (key_kind WIDE) ≤ length key.now }
-    ensures number { number_in result ≡ bodies_number WIDE key.now variant.now entry.now (length text.old) }
+    ensures number { answer_number result ≡ bodies_number WIDE key.now variant.now entry.now (length text.old) }
     ensures text { text.new
-        ≡ after (number_in result) (at_front (bodies_text WIDE key.now variant.now entry.now) text.old) text.old }
-    ensures res { res.new ≡ after (number_in result) (bodies_result WIDE key.now variant.now entry.now) res.old }
-    ensures names { number_in result ≡ 0 → ReportedDemands (key_from_body WIDE key.now) text.new res.new }
+        ≡ after (answer_number result) (at_front (bodies_text WIDE key.now variant.now entry.now) text.old) text.old }
+    ensures res { res.new ≡ after (answer_number result) (bodies_result WIDE key.now variant.now entry.now) res.old }
+    ensures names { answer_number result ≡ 0 → ReportedDemands (key_from_body WIDE key.now) text.new res.new }
 {
     let k = read_key::<WIDE>(key);
     bodies_cause::<WIDE>(key, variant, entry)?;

@@ -1,6 +1,6 @@
 //! The record at the front of some bytes.
 ghost use Rattle.std.specs.Prelude.{◌≡◌};
-ghost use Rattle.values.specs.Refusals.{number_in};
+ghost use Rattle.values.specs.Refusals.{answer_number};
 ghost use Rattle.wire.specs.Reading.{record_number};
 ghost use Rattle.yuzuknoll.specs.Lent.{after, record_numbers};
 ghost use Rattle.yuzuknoll.specs.Records.{kind_in};
@@ -16,8 +16,8 @@ pub(crate) fn report_record(kind: Kind, record: &mut [u64; 2])
 }
 
 fn read(bytes: &[u8], record: &mut [u64; 2]) -> Result<(), Refusal>
-    ensures number { number_in result ≡ record_number bytes.now }
-    ensures reported { «record».new ≡ after (number_in result) (record_numbers (kind_in bytes.now)) «record».old }
+    ensures number { answer_number result ≡ record_number bytes.now }
+    ensures reported { «record».new ≡ after (answer_number result) (record_numbers (kind_in bytes.now)) «record».old }
 {
     report_record(record_kind(bytes)?, record);
     Ok(())

@@ -1,6 +1,6 @@
 //! The record at the front of some bytes, written to the front of a buffer.
 ghost use Rattle.std.specs.Prelude.{◌≡◌, length};
-ghost use Rattle.values.specs.Refusals.{number_in};
+ghost use Rattle.values.specs.Refusals.{answer_number};
 ghost use Rattle.yuzuknoll.specs.Lent.{after, at_front, record_numbers};
 ghost use Rattle.yuzuknoll.specs.Records.{bytes_in, copy_number, kind_in};
 
@@ -11,9 +11,9 @@ use values::{Refusal, number};
 use wire::record_length;
 
 fn write(bytes: &[u8], out: &mut [u8], record: &mut [u64; 2]) -> Result<(), Refusal>
-    ensures number { number_in result ≡ copy_number bytes.now (length out.old) }
-    ensures buffer { out.new ≡ after (number_in result) (at_front (bytes_in bytes.now) out.old) out.old }
-    ensures reported { «record».new ≡ after (number_in result) (record_numbers (kind_in bytes.now)) «record».old }
+    ensures number { answer_number result ≡ copy_number bytes.now (length out.old) }
+    ensures buffer { out.new ≡ after (answer_number result) (at_front (bytes_in bytes.now) out.old) out.old }
+    ensures reported { «record».new ≡ after (answer_number result) (record_numbers (kind_in bytes.now)) «record».old }
 {
     let kind = record_kind(bytes)?;
     let n = record_length(kind);

@@ -6,11 +6,11 @@ use Rattle.std.specs.Iterator.{AlwaysYields}
 use Rattle.std.specs.Slice.Iter.{chunks_exact_steps, chunks_exact_rest, chunks_exact_size}
 use Rattle.std.proofs.lemmas.Iterator.{YieldsList}
 use Rattle.std.proofs.lemmas.Iterator.Search.{any_from_yields_List}
-use Rattle.admission.specs.Patterns.{cut, fits}
+use Rattle.admission.specs.Patterns.{chunks, fits}
 use Rattle.admission.proofs.words.fits_any.Goals as goal
 
 pieces : (n k : ℕ) (s : _) → 0 < n → chunks_exact_size s ≡ n → k * n ≤ length (chunks_exact_rest s) → length (chunks_exact_rest s) < suc k * n
-    → AlwaysYields (chunks_exact_steps {A = ℕ}) (λ x. x.now) s (cut n k (chunks_exact_rest s))
+    → AlwaysYields (chunks_exact_steps {A = ℕ}) (λ x. x.now) s (chunks n k (chunks_exact_rest s))
 pieces n zero s h e a b = λ x j p. let l = ap length p.1.0 ∙ length-append x.now (chunks_exact_rest j) in omega (arith, p.1.1)
 pieces n (suc k) s h e a b = (
   (λ j p. omega (arith, p.1.0, suc-mul k n)),
@@ -23,7 +23,7 @@ pieces n (suc k) s h e a b = (
 )
 
 all_pieces : (n : ℕ) (l : List ℕ) (s : _) → 0 < n → chunks_exact_size s ≡ n → chunks_exact_rest s ≡ l
-    → YieldsList (chunks_exact_steps {A = ℕ}) (λ x. x.now) s (cut n (length l / n) l)
+    → YieldsList (chunks_exact_steps {A = ℕ}) (λ x. x.now) s (chunks n (length l / n) l)
 all_pieces n l s h e f =
     let m = length (chunks_exact_rest s) in
     let c = mul_comm (m / n) n in

@@ -6,4 +6,4 @@ use Rattle.cascade.proofs.warnings.warns_modifier.Goals as goal
 
 pub returns : goal.returns
 unfolding warns
-returns c = c.warned.ensures (gives modifier_cause) (λ k r h. search rules)
+returns c = c.applies.ensures (gives modifier_cause) (λ k r h. search rules)

@@ -6,4 +6,4 @@ use Rattle.cascade.proofs.warnings.warns_op.Goals as goal
 
 pub returns : goal.returns
 unfolding warns
-returns c = c.warned.ensures (gives op_cause) (λ k r h. search rules)
+returns c = c.applies.ensures (gives op_cause) (λ k r h. search rules)

@@ -6,4 +6,4 @@ use Rattle.cascade.proofs.warnings.warns_selector.Goals as goal
 
 pub returns : goal.returns
 unfolding warns
-returns c = c.warned.ensures (gives selector_cause) (λ k r h. search rules)
+returns c = c.applies.ensures (gives selector_cause) (λ k r h. search rules)
