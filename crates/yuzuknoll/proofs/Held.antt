@@ -171,7 +171,7 @@ key_put held h k r =
 module _ (held b : List ℕ) (room : ℕ) (w : Bytes b) (h : length held ≡ held_length) where
   abbrev Stands : Result Reading Refusal → Type 0
   Stands x =
-      held_of (after (applied_number (held_of held) b room) (held_with (kind_of (found x)) b held) held) ≡ records.held_with x (held_of held)
+      held_of (after (applied_number (held_of held) b room) (held_with (kind_of (found x)) b held) held) ≡ records.held_by x (held_of held)
 
   refusal_stands : (c : Refusal) → record_number b ≡ number_of c → Stands (Err c)
   refusal_stands c n = rw (n, ne_eqb (number_of c) 0 (not_zero c), ne_eqb (number_of c) 0 (not_zero c))
