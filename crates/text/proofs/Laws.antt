@@ -120,3 +120,6 @@ last_digit n h k w = pick_false (le-ltb _ _ h) (same (ap (λ (l : List ℕ). l +
 
 -- what `search` is handed at the return of a function that writes text
 pub ruleset texts = (◌⨾◌, nothing, pick_true, pick_false, eqb_at, ne_eqb, le-leb, lt-leb, le-ltb, lt-ltb)
+
+-- what `grind` is handed at a function that writes pieces of which few are literals
+pub ruleset joining = (sets-append, length-append)

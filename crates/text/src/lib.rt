@@ -34,6 +34,7 @@ fn copy(out: &mut [u8], at: usize, s: &[u8], digit: u8)
     requires { at + length s.now ≤ length out.old }
     ensures { out.new ≡ sets out.old at (filled digit s.now) }
 {
+    // Tried: a zip with `iter_mut` of the range. A proof knows nothing of elements that are written through an adapter of `iter_mut`.
     for (i, b) in s.iter().enumerate() {
         out[at + i] = filled_byte(digit, *b);
     }
@@ -51,6 +52,7 @@ fn put_filled(out: &mut [u8], at: usize, s: &[u8], digit: u8) -> usize
 }
 
 // The bytes of s. A mark in them stays: it is filled with itself.
+#[tactic(auto, using(crate::proofs::Laws::kept_marks))]
 pub fn put(out: &mut [u8], at: usize, s: &[u8]) -> usize
     ensures { Placed out.old at out.new result (raw s.now) }
 {
