@@ -7,6 +7,7 @@ use crate::codes::*;
 use crate::{Arg, Source};
 use text::{put, put_numbered, put_when};
 use values::StageIndex;
+use values::staged::put_staged;
 
 // A texture that is not bound is white, and so is a selector that Microsoft does not name.
 fn source_of(selector: u8, textured: bool) -> Source
@@ -43,7 +44,7 @@ fn put_source(out: &mut [u8], at: usize, s: Source, stage: StageIndex) -> usize
     match s {
         Source::Diffuse => put(out, at, b"in.color0"),
         Source::Current => put(out, at, b"current"),
-        Source::Texture => put_numbered(out, at, b"t#", stage.number()),
+        Source::Texture => put_staged(out, at, b"t#", stage),
         Source::Factor => put(out, at, b"ps_c[0]"),
         Source::Specular => put(out, at, b"in.color1"),
         Source::Temp => put(out, at, b"temp"),
@@ -52,6 +53,7 @@ fn put_source(out: &mut [u8], at: usize, s: Source, stage: StageIndex) -> usize
     }
 }
 
+#[tactic(auto, using(text::proofs::Laws::joining), unfolding(crate::specs::Arguments::replicated))]
 fn put_replicated(out: &mut [u8], at: usize, x: Arg, stage: StageIndex) -> usize
     ensures { Wrote out.old at out.new result (replicated stage x) }
 {
@@ -59,6 +61,7 @@ fn put_replicated(out: &mut [u8], at: usize, x: Arg, stage: StageIndex) -> usize
     put_when(out, a, x.replicate, b".aaaa")
 }
 
+#[tactic(auto, using(text::proofs::Laws::joining), unfolding(crate::specs::Arguments::arg_text))]
 pub fn put_arg(out: &mut [u8], at: usize, x: Arg, stage: StageIndex) -> usize
     ensures { Wrote out.old at out.new result (arg_text stage x) }
 {

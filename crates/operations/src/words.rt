@@ -7,10 +7,12 @@ ghost use Rattle.operations.specs.Forms.{opening_text, joining_text, ending_text
 use crate::forms::{Ending, Joining, Opening};
 use combiners::Arg;
 use combiners::arguments::put_arg;
-use text::{put, put_numbered};
+use text::put;
 use values::StageIndex;
+use values::staged::put_staged;
 
 // An argument between two pieces of text.
+#[tactic(auto, using(text::proofs::Laws::joining))]
 fn put_around(
     out: &mut [u8],
     at: usize,
@@ -57,7 +59,7 @@ pub fn put_joining(
         Joining::Plus => put(out, at, b" + "),
         Joining::Minus => put(out, at, b" - "),
         Joining::TimesDiffuseAlphaPlus => put(out, at, b" * in.color0.a + "),
-        Joining::TimesTexelAlphaPlus => put_numbered(out, at, b" * t#.a + ", stage.number()),
+        Joining::TimesTexelAlphaPlus => put_staged(out, at, b" * t#.a + ", stage),
         Joining::TimesFactorAlphaPlus => put(out, at, b" * ps_c[0].a + "),
         Joining::TimesCurrentAlphaPlus => put(out, at, b" * current.a + "),
         Joining::PlusArg1AlphaTimes => put_around(out, at, b" + (", x, b").a * ", stage),
@@ -83,12 +85,7 @@ pub fn put_ending(out: &mut [u8], at: usize, w: Ending, x: Arg, stage: StageInde
         Ending::MinusHalf => put(out, at, b" - 0.5)"),
         Ending::MinusHalfSum => put(out, at, b" - 0.5))"),
         Ending::TimesInverseDiffuseAlpha => put(out, at, b" * (1.0 - in.color0.a))"),
-        Ending::TimesInverseTexelAlpha => put_numbered(
-            out,
-            at,
-            b" * (1.0 - t#.a))",
-            stage.number(),
-        ),
+        Ending::TimesInverseTexelAlpha => put_staged(out, at, b" * (1.0 - t#.a))", stage),
         Ending::TimesInverseFactorAlpha => put(out, at, b" * (1.0 - ps_c[0].a))"),
         Ending::TimesInverseCurrentAlpha => put(out, at, b" * (1.0 - current.a))"),
         Ending::TimesInverseArg1 => put_around(out, at, b" * (1.0 - ", x, b"))", stage),
