@@ -7,11 +7,6 @@ use Rattle.text.specs.Text.{lit, pick, flat, ◌⊕◌}
 use Rattle.text.specs.Buffer.{Wrote}
 use Rattle.text.proofs.Laws.{same}
 
--- two components or three, the dot in front of them
-dot_bytes : (three : Bool) → flat (pick three (lit ".xyz") (lit ".xy")) ≡ flat (lit "." ⊕ pick three (lit "xyz") (lit "xy"))
-dot_bytes true = refl
-dot_bytes false = refl
-
 -- how a projected coordinate ends
 zero_bytes : (three : Bool)
     → flat (pick three (lit " : float3(0.0))") (lit " : float2(0.0))")) ≡ flat (lit " : " ⊕ pick three (lit "float3(0.0)") (lit "float2(0.0)") ⊕ lit ")")
@@ -19,9 +14,6 @@ zero_bytes true = refl
 zero_bytes false = refl
 
 module _ {l l' : List ℕ} {a a' : ℕ} where
-  pub dotted : {three : Bool} → Wrote l a l' a' (pick three (lit ".xyz") (lit ".xy")) → Wrote l a l' a' (lit "." ⊕ pick three (lit "xyz") (lit "xy"))
-  dotted {three} w = same (dot_bytes three) w
-
   pub zeroed : {three : Bool} → Wrote l a l' a' (pick three (lit " : float3(0.0))") (lit " : float2(0.0))"))
       → Wrote l a l' a' (lit " : " ⊕ pick three (lit "float3(0.0)") (lit "float2(0.0)") ⊕ lit ")")
   zeroed {three} w = same (zero_bytes three) w

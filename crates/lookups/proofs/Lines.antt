@@ -1,7 +1,7 @@
 -- The lines of lookups, put together as they are written: a numbered text, what varies, and how the line ends.
 use Prim.Native.Nat.{ℕ}
 use mathlib.Core.Bool.{Bool, true, false}
-use mathlib.Core.Path.{◌≡◌, refl, ap, sym}
+use mathlib.Core.Path.{◌≡◌, ap, sym}
 use mathlib.Core.List.{List, ◌++◌, append_assoc}
 use Rattle.text.specs.Text.{Text, bytes, lit, pick, when, flat, ◌⊕◌}
 use Rattle.text.specs.Marks.{numbered}
@@ -22,18 +22,6 @@ fetch_ended u c l d f e = simp append_assoc
 
 comparison_ended : (x a y b c l d e : List ℕ) → ((x ++ (a ++ (y ++ b))) ++ (c ++ (l ++ d))) ++ e ≡ x ++ (a ++ (y ++ ((b ++ c) ++ (l ++ (d ++ e)))))
 comparison_ended x a y b c l d e = simp append_assoc
-
-pub leveled : (i : ℕ) → flat (numbered i (bytes "level(max(lod_bias[#].w, 0.0))")) ≡ flat (level_text true i)
-unfolding level_text lod_row
-leveled i = refl
-
-pub unleveled : (i : ℕ) → flat (lit "level(0)") ≡ flat (level_text false i)
-unfolding level_text
-unleveled i = refl
-
-pub biased : (i : ℕ) → flat (numbered i (bytes ", bias(lod_bias[#].x)")) ≡ flat (lit ", bias(" ⊕ lod_row i ⊕ lit ".x)")
-unfolding lod_row
-biased i = refl
 
 pub gathered : (alpha projected : Bool) (i : ℕ) (tc : Text)
     → flat (numbered i (bytes "    float4 t# = s#.gather(samp#, (") ⊕ uv_text projected false tc

@@ -21,6 +21,7 @@ pub fn put_coordinate(out: &mut [u8], at: usize, i: StageIndex, c: Coordinate) -
 }
 
 // Two components of a coordinate, or three.
+#[tactic(auto, using(text::proofs::Laws::joining))]
 fn put_swizzled(out: &mut [u8], at: usize, three: bool, i: StageIndex, c: Coordinate) -> usize
     ensures { Wrote out.old at out.new result (coordinate_text i c ⊕ lit "." ⊕ pick three (lit "xyz") (lit "xy")) }
 {
@@ -48,6 +49,7 @@ pub(crate) fn put_tested_quotient(
 }
 
 // Where to read: two coordinates or three, divided if the stage is projected.
+#[tactic(auto, unfolding(shader::specs::Lookups::uv_text))]
 pub(crate) fn put_uv(
     out: &mut [u8],
     at: usize,

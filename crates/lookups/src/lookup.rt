@@ -9,7 +9,7 @@ use crate::samples::{
 };
 use shader::{Coordinate, Lookup, Sampling};
 
-#[tactic(auto, unfolding(shader::specs::Lookups::lookup_text))]
+#[tactic(auto, using(text::proofs::Laws::joining), unfolding(shader::specs::Lookups::lookup_text))]
 fn put_comparison_lines(out: &mut [u8], at: usize, s: Sampling, c: Coordinate) -> usize
     ensures { Wrote out.old at out.new result (lookup_text Lookup.DepthCompare s.lod s.projected s.stage c) }
 {

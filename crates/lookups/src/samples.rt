@@ -9,6 +9,7 @@ use text::{put, put_either, put_when};
 use values::StageIndex;
 use values::staged::put_staged;
 
+#[tactic(auto, unfolding(shader::specs::Lookups::level_text))]
 fn put_level(out: &mut [u8], at: usize, lod: bool, i: StageIndex) -> usize
     ensures { Wrote out.old at out.new result (level_text lod i) }
 {

@@ -1,12 +1,9 @@
--- The level is that of `level_text` for the flag.
-use Rattle.std.proofs.Common.{Bool, true, false}
-use Rattle.text.proofs.Laws.{by_test}
-use Rattle.shader.specs.Lookups.{level_text}
-use Rattle.lookups.proofs.Lines.{leveled, unleveled}
+-- The level of the flag, whose text is longer than the search computes.
+use Rattle.std.proofs.Common.{refl}
+use Rattle.text.proofs.Laws.{same, pick_true}
+use Rattle.shader.specs.Lookups.{lod_row, level_text}
 use Rattle.lookups.proofs.samples.put_level.Goals as goal
 
 pub returns-then-lod : goal.returns-then-lod
-returns-then-lod c = by_test (λ (lod : Bool). level_text lod c.args.i) _ true c.if-lod.true (leveled c.args.i) c.put_staged.ensures.written
-
-pub returns-else-lod : goal.returns-else-lod
-returns-else-lod c = by_test (λ (lod : Bool). level_text lod c.args.i) _ false c.if-lod.false (unleveled c.args.i) c.put.ensures.written
+unfolding level_text lod_row
+returns-then-lod c = pick_true c.if-lod.true (same refl c.put_staged.ensures.written)
