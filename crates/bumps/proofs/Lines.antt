@@ -6,18 +6,12 @@ use mathlib.Core.List.{List, ◌++◌, append_assoc}
 use Rattle.text.specs.Text.{Text, bytes, lit, when, flat, ◌⊕◌}
 use Rattle.text.specs.Marks.{numbered}
 use Rattle.combiners.specs.Arguments.{texel_name}
-use Rattle.shader.specs.Lookups.{coordinate_text, bump_row, quotient_text, divided_line, offset_text, moved_text, displaced_line, luminance_line}
+use Rattle.shader.specs.Lookups.{coordinate_text, bump_row, offset_text, moved_text, displaced_line, luminance_line}
 use Rattle.shader.specs.declared.Coordinate.{Coordinate}
 
 offsets : (r a b c s t e : List ℕ)
     → (r ++ (a ++ (r ++ b))) ++ (c ++ ((r ++ (s ++ (r ++ t))) ++ e)) ≡ (r ++ a) ++ ((r ++ (b ++ c)) ++ ((r ++ s) ++ (r ++ (t ++ e))))
 offsets r a b c s t e = simp append_assoc
-
-pub divided : (i : ℕ)
-    → flat (numbered i (bytes "    float4 pc# = in.texcoord#.w != 0.0 ? float4(in.texcoord#.xyz / in.texcoord#.w, 1.0) : float4(0.0, 0.0, 0.0, 1.0);\n"))
-    ≡ flat (divided_line i)
-unfolding divided_line coordinate_text quotient_text
-divided i = refl
 
 pub moves : (n : ℕ) (tc : Text)
     → flat (tc ⊕ lit ".xy + float2(" ⊕ (bump_row (2 * n) ⊕ numbered n (bytes ".x * t#.x + ")) ⊕ (bump_row (2 * n) ⊕ numbered n (bytes ".z * t#.y, "))
@@ -34,11 +28,6 @@ pub displaces : (i n : ℕ) (c : Coordinate)
     ≡ flat (displaced_line i n c)
 unfolding displaced_line coordinate_text
 displaces i n c = refl
-
-pub scales : (n : ℕ) (row : Text)
-    → flat (numbered n (bytes "t#.z * ") ⊕ row ⊕ lit ".x + ") ≡ flat (texel_name n ⊕ lit ".z * " ⊕ row ⊕ lit ".x + ")
-unfolding texel_name
-scales n row = refl
 
 pub lights : (tex : Bool) (i n : ℕ)
     → flat (numbered i (bytes "    t# *= saturate(") ⊕ when tex (texel_name n ⊕ lit ".z * " ⊕ bump_row (2 * n + 1) ⊕ lit ".x + ")

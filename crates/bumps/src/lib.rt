@@ -39,6 +39,7 @@ fn put_luminance_row(out: &mut [u8], at: usize, n: StageIndex) -> usize
 }
 
 // The line that declares a divided coordinate.
+#[tactic(auto, unfolding(shader::specs::Lookups::divided_line, shader::specs::Lookups::coordinate_text, shader::specs::Lookups::quotient_text))]
 fn put_divided_line(out: &mut [u8], at: usize, i: StageIndex) -> usize
     ensures { Wrote out.old at out.new result (divided_line i) }
 {
@@ -51,6 +52,7 @@ fn put_divided_line(out: &mut [u8], at: usize, i: StageIndex) -> usize
 }
 
 // The row of stage n's matrix, and what is done with an entry of it.
+#[tactic(auto, using(text::proofs::Laws::joining))]
 fn put_entry(out: &mut [u8], at: usize, n: StageIndex, entry: &[u8]) -> usize
     ensures { Wrote out.old at out.new result (bump_row (2 * n) ⊕ numbered n entry.now) }
 {
@@ -87,7 +89,7 @@ fn put_displaced_line(
     put(out, p, b".zw);\n")
 }
 
-#[tactic(auto, unfolding(shader::specs::Lookups::displacement_text))]
+#[tactic(auto, using(text::proofs::Laws::joining), unfolding(shader::specs::Lookups::displacement_text))]
 fn put_displacement(
     out: &mut [u8],
     at: usize,
@@ -106,6 +108,7 @@ fn put_displacement(
 }
 
 // The luminance of a bump stage's texel, scaled.
+#[tactic(auto, using(text::proofs::Laws::joining), unfolding(combiners::specs::Arguments::texel_name))]
 fn put_scaled(out: &mut [u8], at: usize, b: &BumpStage) -> usize
     ensures { Wrote out.old at out.new result
         (when b.now.textured (texel_name b.now.stage ⊕ lit ".z * " ⊕ bump_row (2 * b.now.stage + 1) ⊕ lit ".x + ")) }
@@ -138,6 +141,7 @@ fn put_luminance(out: &mut [u8], at: usize, b: &BumpStage, i: StageIndex) -> usi
 }
 
 // The lookup behind a bump stage.
+#[tactic(auto, using(text::proofs::Laws::joining))]
 fn put_bumped(out: &mut [u8], at: usize, b: &BumpStage, s: Sampling) -> usize
     ensures { Wrote out.old at out.new result
         (pick b.now.textured (displacement_text s.projected s.stage b.now.stage ⊕ lookup_text s.lookup s.lod false s.stage Coordinate.Displaced)
@@ -157,7 +161,7 @@ fn put_bumped(out: &mut [u8], at: usize, b: &BumpStage, s: Sampling) -> usize
 
 // Everything that the lookup of a stage writes, behind a bump stage or not. The bump stage is lent: a struct that holds a stage's number is not yet
 // proved where it is passed by value twice.
-#[tactic(auto, unfolding(shader::specs::Lookups::sample_text))]
+#[tactic(auto, using(text::proofs::Laws::joining), unfolding(shader::specs::Lookups::sample_text))]
 pub fn put_sample(out: &mut [u8], at: usize, before: Option<BumpStage>, s: Sampling) -> usize
     ensures { Wrote out.old at out.new result (sample_text before s.lookup s.lod s.projected s.stage) }
 {
