@@ -3,13 +3,13 @@ use Prim.Native.Nat.{ℕ}
 use mathlib.Core.Bool.{Bool, true, false}
 use mathlib.Core.Path.{◌≡◌, refl, ap, ◌∙◌}
 use mathlib.Core.List.{List}
-use Rattle.text.specs.Text.{Text, bytes, raw, lit, none, pick, flat, ◌⊕◌}
+use Rattle.text.specs.Text.{Text, bytes, raw, lit, pick, flat, ◌⊕◌}
 use Rattle.text.specs.Marks.{numbered}
 use Rattle.text.specs.Buffer.{Wrote}
 use Rattle.text.proofs.Laws.{◌⨾◌}
 use Rattle.shader.specs.Lookups.{texture_name, sampler_name, type_text, texture_type_of}
 use Rattle.shader.specs.Output.{specular_text}
-use Rattle.shader.specs.Whole.{varyings_text, srgb_helper_text, stage_in_text, texture_parameter, sampler_parameter, sprite_line, sprite_text, locals_text}
+use Rattle.shader.specs.Whole.{varyings_text, stage_in_text, texture_parameter, sampler_parameter, locals_text}
 use Rattle.values.specs.declared.Variant.{Variant}
 use Rattle.shader.specs.declared.TextureType.{TextureType}
 
@@ -36,18 +36,6 @@ pub varyings : (b : Bool)
 unfolding varyings_text
 varyings b = refl
 
-pub helper : flat (raw (flat
-    (lit "static inline float3 mtld3d_linear_to_srgb(float3 c) {\n    float3 lo = 12.92 * c;\n"
-    ⊕ lit "    float3 hi = 1.055 * pow(max(c, float3(0.0)), 1.0 / 2.4) - 0.055;\n"
-    ⊕ lit "    return select(hi, lo, c <= 0.0031308);\n}\n\n")))
-    ≡ flat (srgb_helper_text true)
-unfolding srgb_helper_text
-helper = refl
-
-pub no_helper : flat none ≡ flat (srgb_helper_text false)
-unfolding srgb_helper_text
-no_helper = refl
-
 pub begins : (b : Bool)
     → flat (pick b
     (lit "(\n    Varyings in_stage [[stage_in]],\n    float2 point_coord [[point_coord]],\n    constant float4 *ps_c [[buffer(15)]]")
@@ -72,26 +60,8 @@ pub paired : (v : Variant) (i : ℕ) (t : TextureType) → t ≡ texture_type_of
     → flat (texture i t ⊕ sampler i) ≡ flat (texture_parameter v i ⊕ sampler_parameter i)
 paired v i t e = ap (λ (x : TextureType). flat (texture i x ⊕ sampler i)) e ∙ pair_text v i
 
-pub sprites : flat (raw (flat
-    (lit "    Varyings in = in_stage;\n"
-    ⊕ lit "    in.texcoord0 = float4(point_coord.x, point_coord.y, 0.0, 0.0);\n"
-    ⊕ lit "    in.texcoord1 = float4(point_coord.x, point_coord.y, 0.0, 0.0);\n"
-    ⊕ lit "    in.texcoord2 = float4(point_coord.x, point_coord.y, 0.0, 0.0);\n"
-    ⊕ lit "    in.texcoord3 = float4(point_coord.x, point_coord.y, 0.0, 0.0);\n"
-    ⊕ lit "    in.texcoord4 = float4(point_coord.x, point_coord.y, 0.0, 0.0);\n"
-    ⊕ lit "    in.texcoord5 = float4(point_coord.x, point_coord.y, 0.0, 0.0);\n"
-    ⊕ lit "    in.texcoord6 = float4(point_coord.x, point_coord.y, 0.0, 0.0);\n"
-    ⊕ lit "    in.texcoord7 = float4(point_coord.x, point_coord.y, 0.0, 0.0);\n")))
-    ≡ flat (sprite_text true)
-unfolding sprite_text sprite_line
-sprites = refl
-
-pub no_sprites : flat none ≡ flat (sprite_text false)
-unfolding sprite_text
-no_sprites = refl
-
 pub declared : (b : Bool)
-    → flat (pick b (lit "    float4 current = in.color0;\n    float4 temp = float4(0.0);\n") (lit "    float4 current = in.color0;\n")) ≡ flat (locals_text b)
+    → flat (locals_text b) ≡ flat (pick b (lit "    float4 current = in.color0;\n    float4 temp = float4(0.0);\n") (lit "    float4 current = in.color0;\n"))
 unfolding locals_text
 declared true = refl
 declared false = refl

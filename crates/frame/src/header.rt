@@ -2,7 +2,7 @@
 ghost use Rattle.text.specs.Buffer.{Wrote};
 ghost use Rattle.shader.specs.Whole.{varyings_text, srgb_helper_text, front_text};
 
-use text::{put, put_either};
+use text::{put, put_either, put_when};
 use values::Variant;
 use variants::bits::{flat_shade, sample_mask, srgb_write};
 
@@ -55,23 +55,22 @@ struct Varyings {
     )
 }
 
+#[tactic(auto, unfolding(shader::specs::Whole::srgb_helper_text))]
 fn put_srgb_helper(out: &mut [u8], at: usize, on: bool) -> usize
     ensures { Wrote out.old at out.new result (srgb_helper_text on) }
 {
-    if on {
-        return put(
-            out,
-            at,
-            b"static inline float3 mtld3d_linear_to_srgb(float3 c) {
+    put_when(
+        out,
+        at,
+        on,
+        b"static inline float3 mtld3d_linear_to_srgb(float3 c) {
     float3 lo = 12.92 * c;
     float3 hi = 1.055 * pow(max(c, float3(0.0)), 1.0 / 2.4) - 0.055;
     return select(hi, lo, c <= 0.0031308);
 }
 
 ",
-        );
-    }
-    at
+    )
 }
 
 pub fn put_front(out: &mut [u8], at: usize, v: Variant) -> usize

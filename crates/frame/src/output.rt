@@ -23,6 +23,7 @@ fn put_specular(out: &mut [u8], at: usize, on: bool) -> usize
     )
 }
 
+#[tactic(auto, unfolding(shader::specs::Output::fog_depth_text))]
 fn put_fog_depth(out: &mut [u8], at: usize, w: bool) -> usize
     ensures { Wrote out.old at out.new result (fog_depth_text w) }
 {
@@ -63,6 +64,7 @@ fn put_fog_factor(out: &mut [u8], at: usize, mode: u8) -> usize
 }
 
 // Without a table mode, a fog mode uses the vertex factor.
+#[tactic(auto, unfolding(shader::specs::Output::fog_text))]
 fn put_fog(out: &mut [u8], at: usize, v: Variant) -> usize
     ensures { Wrote out.old at out.new result (fog_text v) }
 {
@@ -85,6 +87,7 @@ fn put_fog(out: &mut [u8], at: usize, v: Variant) -> usize
 }
 
 // A code that Microsoft does not name tests true. Any byte may be one, and they are told apart here alone: an enum of them would be a second such match.
+#[tactic(auto, unfolding(shader::specs::Output::comparison_text))]
 fn put_comparison(out: &mut [u8], at: usize, f: u8) -> usize
     ensures { Wrote out.old at out.new result (comparison_text f) }
 {
@@ -100,6 +103,7 @@ fn put_comparison(out: &mut [u8], at: usize, f: u8) -> usize
     }
 }
 
+#[tactic(auto, unfolding(shader::specs::Output::test_text))]
 fn put_test(out: &mut [u8], at: usize, v: Variant) -> usize
     ensures { Wrote out.old at out.new result (test_text v) }
 {
@@ -111,6 +115,7 @@ fn put_test(out: &mut [u8], at: usize, v: Variant) -> usize
     at
 }
 
+#[tactic(auto, unfolding(shader::specs::Output::srgb_text))]
 fn put_srgb(out: &mut [u8], at: usize, on: bool) -> usize
     ensures { Wrote out.old at out.new result (srgb_text on) }
 {
@@ -134,6 +139,7 @@ fn put_return(out: &mut [u8], at: usize, v: Variant) -> usize
     }
 }
 
+#[tactic(auto, using(text::proofs::Laws::joining), unfolding(shader::specs::Output::output_text))]
 pub fn put_output(out: &mut [u8], at: usize, specular: bool, v: Variant) -> usize
     ensures { Wrote out.old at out.new result (output_text specular v) }
 {

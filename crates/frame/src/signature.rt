@@ -55,14 +55,15 @@ fn put_sampler(out: &mut [u8], at: usize, there: bool, v: Variant, i: StageIndex
     at
 }
 
+#[tactic(auto, unfolding(shader::specs::Whole::sprite_text, shader::specs::Whole::sprite_line))]
 pub fn put_sprite(out: &mut [u8], at: usize, sprite: bool) -> usize
     ensures { Wrote out.old at out.new result (sprite_text sprite) }
 {
-    if sprite {
-        return put(
-            out,
-            at,
-            b"    Varyings in = in_stage;
+    put_when(
+        out,
+        at,
+        sprite,
+        b"    Varyings in = in_stage;
     in.texcoord0 = float4(point_coord.x, point_coord.y, 0.0, 0.0);
     in.texcoord1 = float4(point_coord.x, point_coord.y, 0.0, 0.0);
     in.texcoord2 = float4(point_coord.x, point_coord.y, 0.0, 0.0);
@@ -72,11 +73,10 @@ pub fn put_sprite(out: &mut [u8], at: usize, sprite: bool) -> usize
     in.texcoord6 = float4(point_coord.x, point_coord.y, 0.0, 0.0);
     in.texcoord7 = float4(point_coord.x, point_coord.y, 0.0, 0.0);
 ",
-        );
-    }
-    at
+    )
 }
 
+#[tactic(auto, using(crate::proofs::Parts::declared))]
 pub fn put_locals(out: &mut [u8], at: usize, alive: bool) -> usize
     ensures { Wrote out.old at out.new result (locals_text alive) }
 {

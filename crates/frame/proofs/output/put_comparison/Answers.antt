@@ -4,14 +4,6 @@ use Rattle.text.proofs.Laws.{texts, same}
 use Rattle.shader.specs.Output.{comparison_text}
 use Rattle.frame.proofs.output.put_comparison.Goals as goal
 
-pub returns-in-1 : goal.returns-in-1
-unfolding comparison_text
-returns-in-1 c = rw c.in-1.is (same refl c.put.ensures.written)
-
-pub returns-in-2 : goal.returns-in-2
-unfolding comparison_text
-returns-in-2 c = rw c.in-2.is (same refl c.put-in-2.ensures.written)
-
 pub returns-in-3 : goal.returns-in-3
 unfolding comparison_text
 returns-in-3 c = rw c.in-3.is (same refl c.put-in-3.ensures.written)
@@ -19,10 +11,6 @@ returns-in-3 c = rw c.in-3.is (same refl c.put-in-3.ensures.written)
 pub returns-in-4 : goal.returns-in-4
 unfolding comparison_text
 returns-in-4 c = rw c.in-4.is (same refl c.put-in-4.ensures.written)
-
-pub returns-in-5 : goal.returns-in-5
-unfolding comparison_text
-returns-in-5 c = rw c.in-5.is (same refl c.put-in-5.ensures.written)
 
 pub returns-in-6 : goal.returns-in-6
 unfolding comparison_text

@@ -1,12 +1,8 @@
--- Without a table mode the vertex factor's line, if there is fog; with one the depth, the factor and the line that mixes.
-use borrow.Author.Tests.{eq-eqb, ne_eqb}
-use Rattle.text.proofs.Laws.{◌⨾◌, pick_true, pick_false}
+-- With a table mode the depth, the factor and the line that mixes.
+use borrow.Author.Tests.{ne_eqb}
+use Rattle.text.proofs.Laws.{◌⨾◌, pick_false}
 use Rattle.shader.specs.Output.{fog_text}
 use Rattle.frame.proofs.output.put_fog.Goals as goal
-
-pub returns-then-v-eq-D3DFOG_NONE : goal.returns-then-v-eq-D3DFOG_NONE
-unfolding fog_text
-returns-then-v-eq-D3DFOG_NONE c = pick_true (eq-eqb _ _ c.if-v-eq-D3DFOG_NONE.true) c.put_when.ensures.written
 
 pub returns-else-v-eq-D3DFOG_NONE : goal.returns-else-v-eq-D3DFOG_NONE
 unfolding fog_text

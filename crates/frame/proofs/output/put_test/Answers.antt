@@ -1,6 +1,6 @@
 -- Where the variant tests, the comparison stands between the two halves of the line; else nothing is written.
 use Rattle.std.proofs.Common.{sym, ◌∙◌}
-use Rattle.text.proofs.Laws.{◌⨾◌, pick_true, pick_false, nothing}
+use Rattle.text.proofs.Laws.{◌⨾◌, pick_true}
 use Rattle.shader.specs.Output.{test_text}
 use Rattle.frame.proofs.output.put_test.Goals as goal
 
@@ -9,7 +9,3 @@ unfolding test_text
 returns-then-tested c =
     pick_true (sym c.tested.ensures ∙ c.if-tested.true)
     (c.put-p.ensures.written ⨾ c.put_comparison-p.ensures ⨾ c.put.ensures.written)
-
-pub returns : goal.returns
-unfolding test_text
-returns c = pick_false (sym c.tested.ensures ∙ c.if-tested.false) (nothing _ _)
