@@ -136,12 +136,14 @@ module _ (i n : ℕ) where
 
 -- what a lookup behind a bump stage uses
 module _ (n : ℕ) (f : Lookup) (lod projected : Bool) (i : ℕ) where
-  pub sample_texel : (tex lum : Bool) → n < 8 → T tex → Mentions (texel n) (flat (sample_text (Some (record { stage = n; textured = tex; luminance = lum })) f lod projected i))
+  pub sample_texel : (tex lum : Bool) → n < 8 → T tex
+      → Mentions (texel n) (flat (sample_text (Some (record { stage = n; textured = tex; luminance = lum })) f lod projected i))
   unfolding sample_text
   sample_texel true lum l t = mentions_left _ (mentions_left _ (displacement_mentions i n projected (λ c. mover_mentions i n c l)))
   sample_texel false lum l t = absurd t
 
-  pub sample_env : (tex lum : Bool) → T (tex || lum) → Mentions (the "bump_env") (flat (sample_text (Some (record { stage = n; textured = tex; luminance = lum })) f lod projected i))
+  pub sample_env : (tex lum : Bool) → T (tex || lum)
+      → Mentions (the "bump_env") (flat (sample_text (Some (record { stage = n; textured = tex; luminance = lum })) f lod projected i))
   unfolding sample_text
   sample_env true lum t = mentions_left _ (mentions_left _ (displacement_mentions i n projected (matrix_mentions i n)))
   sample_env false true t = mentions_right (flat (lookup_text f lod projected i Interpolated)) (luminance_env i n)
