@@ -4,7 +4,7 @@ ghost use Rattle.shader.specs.Whole.{varyings_text, srgb_helper_text, front_text
 
 use text::{put, put_either, put_when};
 use values::Variant;
-use variants::bits::{flat_shade, sample_mask, srgb_write};
+use variants::bits::{Flag, has};
 
 fn put_varyings(out: &mut [u8], at: usize, flat: bool) -> usize
     ensures { Wrote out.old at out.new result (varyings_text flat) }
@@ -76,12 +76,12 @@ fn put_srgb_helper(out: &mut [u8], at: usize, on: bool) -> usize
 pub fn put_front(out: &mut [u8], at: usize, v: Variant) -> usize
     ensures { Wrote out.old at out.new result (front_text v) }
 {
-    let mut p = put_varyings(out, at, flat_shade(v));
-    p = put_srgb_helper(out, p, srgb_write(v));
+    let mut p = put_varyings(out, at, has(v, Flag::FlatShade));
+    p = put_srgb_helper(out, p, has(v, Flag::SrgbWrite));
     put_either(
         out,
         p,
-        sample_mask(v),
+        has(v, Flag::SampleMask),
         b"struct FfPsOut {
     float4 oC0 [[color(0)]];
     uint oMask [[sample_mask]];

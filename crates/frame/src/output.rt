@@ -6,7 +6,7 @@ ghost use Rattle.shader.specs.Output.{specular_text, fog_depth_text, fog_factor_
 use combiners::codes::*;
 use text::{put, put_decimal, put_either, put_when};
 use values::Variant;
-use variants::bits::{fog_source_w, sample_mask, srgb_write, tested};
+use variants::bits::{Flag, has, tested};
 
 // The line of specular add, and the declaration of the colour that the later lines change.
 fn put_specular(out: &mut [u8], at: usize, on: bool) -> usize
@@ -76,7 +76,7 @@ fn put_fog(out: &mut [u8], at: usize, v: Variant) -> usize
             b"    oC0 = float4(mix(fog_data[0].rgb, oC0.rgb, saturate(in.fog.x)), oC0.a);\n",
         )
     } else {
-        let mut p = put_fog_depth(out, at, fog_source_w(v));
+        let mut p = put_fog_depth(out, at, has(v, Flag::FogSourceW));
         p = put_fog_factor(out, p, v.fog_table_mode);
         put(
             out,
@@ -130,7 +130,7 @@ fn put_srgb(out: &mut [u8], at: usize, on: bool) -> usize
 fn put_return(out: &mut [u8], at: usize, v: Variant) -> usize
     ensures { Wrote out.old at out.new result (return_text v) }
 {
-    if sample_mask(v) {
+    if has(v, Flag::SampleMask) {
         let mut p = put(out, at, b"    return FfPsOut { oC0, ");
         p = put_decimal(out, p, v.sample_mask as usize);
         put(out, p, b"u };\n}\n")
@@ -146,6 +146,6 @@ pub fn put_output(out: &mut [u8], at: usize, specular: bool, v: Variant) -> usiz
     let mut p = put_specular(out, at, specular);
     p = put_fog(out, p, v);
     p = put_test(out, p, v);
-    p = put_srgb(out, p, srgb_write(v));
+    p = put_srgb(out, p, has(v, Flag::SrgbWrite));
     put_return(out, p, v)
 }

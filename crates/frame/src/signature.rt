@@ -13,7 +13,7 @@ use shader::TextureType;
 use text::{put, put_either, put_when};
 use values::staged::put_staged;
 use values::{Stage, StageIndex, Variant};
-use variants::bits::{fogged, lod_bias, point_sprite, tested};
+use variants::bits::{Flag, fogged, has, tested};
 use variants::kinds::texture_type_of;
 
 // The parameters up to the constants.
@@ -104,7 +104,7 @@ fn put_samplers(out: &mut [u8], at: usize, stages: &[Stage], v: Variant) -> usiz
 pub fn put_parameters(out: &mut [u8], at: usize, s: &Surveyed, v: Variant) -> usize
     ensures { Wrote out.old at out.new result (parameters_text v (active s.now.key.stages)) }
 {
-    let mut p = put_stage_in(out, at, point_sprite(v));
+    let mut p = put_stage_in(out, at, has(v, Flag::PointSprite));
     p = put_when(
         out,
         p,
@@ -126,7 +126,7 @@ pub fn put_parameters(out: &mut [u8], at: usize, s: &Surveyed, v: Variant) -> us
     p = put_when(
         out,
         p,
-        lod_bias(v),
+        has(v, Flag::LodBias),
         b",\n    constant float4 *lod_bias [[buffer(11)]]",
     );
     p = put_samplers(out, p, s.active(), v);

@@ -16,7 +16,7 @@ use frame::output::put_output;
 use frame::signature::{put_locals, put_parameters, put_sprite};
 use text::put;
 use values::{Entry, Variant};
-use variants::bits::point_sprite;
+use variants::bits::{Flag, has};
 
 // The place behind what has been written, and the lookups among it.
 #[derive(Clone, Copy)]
@@ -34,7 +34,7 @@ pub fn put_whole(out: &mut [u8], s: &Surveyed, v: Variant, e: Entry) -> Place
     let mut p = put_front(out, 0, v);
     p = put(out, p, &e.name[..e.len as usize]);
     p = put_parameters(out, p, s, v);
-    p = put_sprite(out, p, point_sprite(v));
+    p = put_sprite(out, p, has(v, Flag::PointSprite));
     p = put_locals(out, p, s.survey.live);
     let stages = put_stages(out, p, s, v);
     Place {

@@ -19,7 +19,7 @@ use cascade::surveyed::Surveyed;
 use expressions::line::put_line;
 use shader::{BumpStage, Sampling};
 use values::{Stage, StageIndex, Variant};
-use variants::bits::{bit, lod_bias};
+use variants::bits::{Flag, bit, has};
 use variants::kinds::lookup_of;
 
 #[tactic(auto, unfolding(shader::specs::Lookups::before_of))]
@@ -44,7 +44,7 @@ fn sampling_of(v: Variant, projected: u8, i: StageIndex) -> Sampling
     Sampling {
         stage: i,
         lookup: lookup_of(v, n),
-        lod: lod_bias(v),
+        lod: has(v, Flag::LodBias),
         projected: bit(projected as u16, n),
     }
 }

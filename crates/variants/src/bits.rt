@@ -1,7 +1,8 @@
 //! The bits of masks and flags, and the tests of a variant's modes.
 ghost use Rattle.std.specs.Prelude.{◌≡◌};
 ghost use Rattle.combiners.specs.Codes.{bit};
-ghost use Rattle.shader.specs.Output.{flat_shade, srgb_write, sample_mask, point_sprite, lod_bias, fog_source_w, fogged, tested};
+ghost use Rattle.shader.specs.Output.{fogged, tested};
+ghost use Rattle.variants.specs.Flags.{has};
 
 use combiners::codes::{D3DCMP_ALWAYS, D3DFOG_NONE};
 use values::Variant;
@@ -13,47 +14,21 @@ pub fn bit(mask: u16, i: u8) -> bool
     (i as u32) < u16::BITS && (mask >> i) % 2 == 1
 }
 
-// A flag of a variant, by its bit.
-fn flag(v: Variant, i: u8) -> bool
-    ensures { result ≡ bit v.flags i }
-{
-    bit(v.flags as u16, i)
+// The flags of a variant, each with its bit.
+#[derive(Clone, Copy)]
+pub enum Flag {
+    FlatShade = 0,
+    SrgbWrite = 1,
+    SampleMask = 2,
+    PointSprite = 3,
+    LodBias = 4,
+    FogSourceW = 5,
 }
 
-pub fn flat_shade(v: Variant) -> bool
-    ensures { result ≡ flat_shade v }
+pub fn has(v: Variant, f: Flag) -> bool
+    ensures { result ≡ has v f }
 {
-    flag(v, 0)
-}
-
-pub fn srgb_write(v: Variant) -> bool
-    ensures { result ≡ srgb_write v }
-{
-    flag(v, 1)
-}
-
-pub fn sample_mask(v: Variant) -> bool
-    ensures { result ≡ sample_mask v }
-{
-    flag(v, 2)
-}
-
-pub fn point_sprite(v: Variant) -> bool
-    ensures { result ≡ point_sprite v }
-{
-    flag(v, 3)
-}
-
-pub fn lod_bias(v: Variant) -> bool
-    ensures { result ≡ lod_bias v }
-{
-    flag(v, 4)
-}
-
-pub fn fog_source_w(v: Variant) -> bool
-    ensures { result ≡ fog_source_w v }
-{
-    flag(v, 5)
+    bit(v.flags as u16, f as u8)
 }
 
 pub fn fogged(v: Variant) -> bool

@@ -4,12 +4,12 @@ use Rattle.text.proofs.Laws.{◌⨾◌, pick_true, pick_false}
 use Rattle.shader.specs.Output.{return_text}
 use Rattle.frame.proofs.output.put_return.Goals as goal
 
-pub returns-then-sample_mask : goal.returns-then-sample_mask
+pub returns-then-has : goal.returns-then-has
 unfolding return_text
-returns-then-sample_mask c =
-    pick_true (sym c.sample_mask.ensures ∙ c.if-sample_mask.true)
+returns-then-has c =
+    pick_true (sym c.has.ensures ∙ c.if-has.true)
     (c.put-p.ensures.written ⨾ c.put_decimal-p.ensures ⨾ c.put.ensures.written)
 
-pub returns-else-sample_mask : goal.returns-else-sample_mask
+pub returns-else-has : goal.returns-else-has
 unfolding return_text
-returns-else-sample_mask c = pick_false (sym c.sample_mask.ensures ∙ c.if-sample_mask.false) c.put-else-sample_mask.ensures.written
+returns-else-has c = pick_false (sym c.has.ensures ∙ c.if-has.false) c.put-else-has.ensures.written
