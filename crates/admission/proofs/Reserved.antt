@@ -1,6 +1,6 @@
 -- The patterns that the code tests, by length, are the reserved words (`by_length`).
-use Rattle.std.proofs.Common.{◌≡◌, ℕ, suc, ◌+◌, ◌-◌, ◌*◌, Bool, true, false, cond, ◌&&◌, ◌||◌, eqb, ltb, leb, List, [], ◌∷◌, ◌++◌}
-use Rattle.std.proofs.Common.{length, sym, refl, ap, ◌∙◌, arith, ltb-true, ne_eqb, eqb-true}
+use Rattle.std.proofs.Common.{◌≡◌, ℕ, suc, ◌+◌, ◌-◌, ◌*◌, ◌<◌, Bool, true, false, cond, ◌&&◌, ◌||◌, eqb, ltb, leb, List, [], ◌∷◌, ◌++◌}
+use Rattle.std.proofs.Common.{length, sym, refl, ap, ◌∙◌, arith, ltb-true, take_all, ne_eqb, eqb-true}
 use Prim.Native.Char.{code}
 use Prim.Native.String.{String}
 use mathlib.Core.Option.{Option, none, some}
@@ -8,7 +8,8 @@ use borrow.Author.Tests.{eqb-false}
 use Rattle.text.specs.Text.{bytes}
 use Rattle.text.specs.Format.{same}
 use Rattle.values.specs.Listed.{singles, families, Name, name, stage_in, in_families, in_list}
-use Rattle.values.specs.Words.{others, one_of, is_listed, reserved_word}
+use Rattle.values.specs.Words.{others, one_of, is_listed, reserved_word, entry_reserved}
+use Rattle.values.specs.declared.Entry.{Entry}
 use Rattle.std.specs.List.{list_any}
 use Rattle.admission.specs.Patterns.{fits, fits_byte}
 
@@ -199,5 +200,9 @@ above : (l : List ℕ) (n : ℕ) → below l n ≡ true → Avoids l n
 above [] n h = tt
 above (k ∷ l) n h = let e = both (ltb k n) (below l n) h in let g = ltb-true k n e.0 in (above l n e.1, λ f. omega arith)
 
-pub long_name : (w : List ℕ) → length w ≡ 32 → false ≡ reserved_word w
+long_name : (w : List ℕ) → length w ≡ 32 → false ≡ reserved_word w
 long_name w h = of_no_length w (rw h (above lengths 32 refl))
+
+-- a length above 32 leaves all of the 32 bytes, and no word is that long
+pub too_long : (e : Entry) → length e.name ≡ 32 → 32 < e.len → false ≡ entry_reserved e
+too_long e h k = rw (take_all e.len e.name (omega arith)) (long_name e.name h)

@@ -3,7 +3,7 @@ ghost use Rattle.std.specs.Prelude.{◌≡◌};
 ghost use Rattle.values.specs.Entries.{entry_good};
 ghost use Rattle.admission.specs.Pass.{possible_in, right, started, pass_stepped};
 
-use crate::{between, continues_name, starts_name};
+use crate::{continues_name, starts_name};
 use std::hint::select_unpredictable;
 use values::Entry;
 
@@ -11,7 +11,7 @@ const NAME_BYTES: u8 = 32;
 
 // Where a pass over an entry's body stands: how many bytes were taken, the length byte, and 1 once a byte was wrong. Callers keep the three numbers
 // between steps, and may hand in any: so `wrong` is a number too, and what it was is what a right byte leaves.
-#[derive(Clone, Copy)]
+#[derive(Clone, Copy, Default)]
 pub struct Pass {
     pub taken: u8,
     pub length: u8,
@@ -23,11 +23,7 @@ impl Pass {
     pub fn new() -> Pass
         ensures { result ≡ started }
     {
-        Pass {
-            taken: 0,
-            length: 0,
-            wrong: 0,
-        }
+        Pass::default()
     }
 
     // Behind one byte more.
@@ -58,11 +54,11 @@ fn right_at(at: u8, length: u8, c: u8) -> bool
         | (at != 1)
             & ((at <= length) & continues_name(c)
                 | !(at <= length) & ((at <= NAME_BYTES) & (c == 0)));
-    (at == 0) & between(1, c, NAME_BYTES) | (at != 0) & name
+    (at == 0) & ((1 <= c) & (c <= NAME_BYTES)) | (at != 0) & name
 }
 
 // Whether a byte was wrong is kept beside the state, so that no step waits for the one before it and the 32 bytes of a name are tested together.
-pub fn entry_good(entry: Entry) -> bool
+pub(crate) fn entry_good(entry: Entry) -> bool
     ensures { result ≡ entry_good entry }
 {
     let mut pass = Pass::new().step(entry.len);

@@ -1,56 +1,68 @@
 //! The causes for which values are refused: stage flags, variant flags, the entry.
 #![tactic(auto)]
 
-pub mod entry;
-pub mod words;
+mod entry;
+mod words;
 
-ghost use Rattle.std.specs.Prelude.{◌≡◌, ◌&&◌, nat_le};
-ghost use Rattle.values.specs.Flags.{stage_flags_bad, variant_flags_bad};
-ghost use Rattle.values.specs.Entries.{continues_name, is_letter, starts_name};
+ghost use Rattle.std.specs.Prelude.{◌≡◌};
+ghost use Rattle.values.specs.Checks.{checked_entry, checked_key, checked_variant};
+ghost use Rattle.values.specs.Flags.{stage_flags_bad};
+ghost use Rattle.values.specs.Entries.{continues_name, starts_name};
 
-pub use entry::{Pass, entry_good};
-use values::{Key, Variant};
-pub use words::entry_reserved;
+pub use entry::Pass;
+use entry::entry_good;
+use values::{Entry, Key, Refusal, Stage, Variant};
+use words::entry_reserved;
 
 // The lowest flag bit without a meaning: bit 2 of a stage, bit 6 of a variant.
-const UNUSED_STAGE_FLAG: u8 = 4;
+pub const UNUSED_STAGE_FLAG: u8 = 4;
 
-const UNUSED_VARIANT_FLAG: u8 = 64;
+pub const UNUSED_VARIANT_FLAG: u8 = 64;
 
-pub fn stage_flags_bad(key: Key) -> bool
-    ensures { result ≡ stage_flags_bad key.stages }
+fn stage_flags_bad(stages: &[Stage; 8]) -> bool
+    ensures { result ≡ stage_flags_bad stages.now }
 {
-    key.stages
-        .iter()
-        .any(|stage| UNUSED_STAGE_FLAG <= stage.flags)
+    stages.iter().any(|stage| UNUSED_STAGE_FLAG <= stage.flags)
 }
 
-pub fn variant_flags_bad(variant: Variant) -> bool
-    ensures { result ≡ variant_flags_bad variant }
+pub fn check_key(key: Key) -> Result<(), Refusal>
+    ensures { result ≡ checked_key key }
 {
-    UNUSED_VARIANT_FLAG <= variant.flags
+    if stage_flags_bad(&key.stages) {
+        return Err(Refusal::StageFlags);
+    }
+    Ok(())
 }
 
-fn between(low: u8, c: u8, high: u8) -> bool
-    ensures { result ≡ (nat_le low c && nat_le c high) }
+pub fn check_variant(variant: Variant) -> Result<(), Refusal>
+    ensures { result ≡ checked_variant variant }
 {
-    (low <= c) & (c <= high)
+    if UNUSED_VARIANT_FLAG <= variant.flags {
+        return Err(Refusal::VariantFlags);
+    }
+    Ok(())
 }
 
-fn is_letter(c: u8) -> bool
-    ensures { result ≡ is_letter c }
+pub fn check_entry(entry: Entry) -> Result<(), Refusal>
+    ensures { result ≡ checked_entry entry }
 {
-    between(b'A', c, b'Z') | between(b'a', c, b'z')
+    if !entry_good(entry) {
+        return Err(Refusal::EntryName);
+    }
+    if entry_reserved(entry) {
+        return Err(Refusal::ReservedWord);
+    }
+    Ok(())
 }
 
 fn starts_name(c: u8) -> bool
     ensures { result ≡ starts_name c }
 {
-    is_letter(c) | (c == b'_')
+    c.is_ascii_alphabetic() | (c == b'_')
 }
 
 fn continues_name(c: u8) -> bool
     ensures { result ≡ continues_name c }
 {
-    starts_name(c) | between(b'0', c, b'9')
+    starts_name(c) | c.is_ascii_digit()
 }

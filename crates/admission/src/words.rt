@@ -4,13 +4,12 @@ ghost use Rattle.std.specs.List.{list_any};
 ghost use Rattle.values.specs.Words.{entry_reserved, reserved_word};
 ghost use Rattle.admission.specs.Patterns.{chunks, fits, fits_byte};
 
-use crate::between;
 use values::Entry;
 
 fn fits_byte(pattern: u8, c: u8) -> bool
     ensures { result ≡ fits_byte pattern c }
 {
-    ((pattern == b'#') & between(b'0', c, b'7')) | ((pattern != b'#') & (pattern == c))
+    ((pattern == b'#') & matches!(c, b'0'..=b'7')) | ((pattern != b'#') & (pattern == c))
 }
 
 // Whether a name fits a pattern, in which `#` stands for a digit from 0 to 7.
@@ -56,9 +55,10 @@ fn reserved(name: &[u8]) -> bool
     }
 }
 
-pub fn entry_reserved(entry: Entry) -> bool
+#[tactic(auto, using(crate::proofs::Reserved::too_long))]
+pub(crate) fn entry_reserved(entry: Entry) -> bool
     ensures { result ≡ entry_reserved entry }
 {
-    let n = entry.len as usize;
-    n <= 32 && reserved(&entry.name[..n])
+    let name = entry.name.get(..entry.len as usize);
+    name.is_some_and(reserved)
 }

@@ -4,4 +4,5 @@ pub mod Entries
 pub mod Admitted
 pub mod Listed
 pub mod Words
+pub mod Checks
 pub mod Kinds

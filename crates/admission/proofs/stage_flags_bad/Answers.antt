@@ -14,5 +14,6 @@ some_bad (s ∷ r) = rw (some_bad r)
 
 pub returns : goal.returns
 returns c =
-    let l = c.args.key.stages in
-    any_from_yields_List (λ (s : Stage). leb 4 s.flags) _ _ _ c.any.ensures.ran (YieldsList-from_slice l cc) (λ x b q k. search (rules, tests)) ∙ sym (some_bad l)
+    let l = c.args.stages.now in
+    any_from_yields_List (λ (s : Stage). leb 4 s.flags) _ _ _ c.any.ensures.ran (YieldsList-from_slice l cc) (λ x b q k. search (rules, tests))
+    ∙ sym (some_bad l)

@@ -5,4 +5,4 @@ use Rattle.admission.proofs.entry.right_at.Goals as goal
 
 pub returns : goal.returns
 unfolding right
-returns c = rw (c.between.ensures, c.continues_name.ensures, c.starts_name.ensures) (simp chosen)
+returns c = rw (c.continues_name.ensures, c.starts_name.ensures) (simp chosen)
