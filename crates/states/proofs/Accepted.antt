@@ -7,7 +7,7 @@ use borrow.Author.Tests.{ltb-false, leb-true, eqb-true}
 use lib.Dec.{eqb, leb, ltb}
 use Rattle.values.specs.declared.StateWrite.{StateWrite}
 use Rattle.std.specs.Prelude.{Result, Ok, Err, is_err}
-use Rattle.values.specs.Refusals.{number_of}
+use Rattle.values.specs.Refusals.{number_of, answer_number}
 use Rattle.values.specs.declared.Refusal.{Refusal}
 use Rattle.values.specs.declared.Refusal.TheVariants.{StageNumber, StateType, StateValue}
 use Rattle.states.specs.Types.{is_type, takes, result_arg, texture_bound}
@@ -67,3 +67,13 @@ is_accepted w e h = agrees w ∙ ap (λ (c : Result (Unit {0}) Refusal). not (is
 
 pub is_refused : (w : StateWrite) {c : Result (Unit {0}) Refusal} → c ≡ checked_write w → is_err c ≡ true → accepted w ≡ false
 is_refused w e h = agrees w ∙ ap (λ (c : Result (Unit {0}) Refusal). not (is_err c)) (sym e) ∙ ap not h
+
+-- the number of what was checked
+numbered : (w : StateWrite) → answer_number (checked_write w) ≡ state_write_number w
+numbered w = check_cases (λ (a : Bool) (n : ℕ) (c : Result (Unit {0}) Refusal). answer_number c ≡ n) w (λ c. refl) (λ _. refl)
+
+pub accepted_number : (w : StateWrite) → checked_write w ≡ Ok tt → 0 ≡ state_write_number w
+accepted_number w e = sym (ap answer_number e) ∙ numbered w
+
+pub refused_number : (w : StateWrite) {c : Refusal} → checked_write w ≡ Err c → number_of c ≡ state_write_number w
+refused_number w e = sym (ap answer_number e) ∙ numbered w

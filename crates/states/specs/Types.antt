@@ -59,6 +59,8 @@ sets_arg0 t = eqb t colour_arg0 || eqb t alpha_arg0
 abbrev pub takes : ℕ → ℕ → Bool
 takes t v = cond (eqb t result_arg) (eqb v 1 || eqb v 5) (cond (eqb t texture_bound) (eqb v 0 || eqb v 1) (leb v 255))
 
+-- Only contracts of private functions cite what follows.
+
 -- the number of a state
 abbrev pub state_number : StageState → ℕ
 state_number state.ColorOp = colour_op

@@ -1,10 +1,10 @@
 //! Texture stage states: the key that Direct3D starts from, and writes that alter a key.
 #![tactic(auto)]
 
-ghost use Rattle.std.specs.Prelude.{◌≡◌, cond};
+ghost use Rattle.std.specs.Prelude.{◌≡◌, cond, Ok, Err, MatchResult};
 ghost use Rattle.values.specs.Kinds.{seven_bytes, three_bytes};
 ghost use Rattle.values.specs.Refusals.{answer_number};
-ghost use Rattle.states.specs.Types.{sets_arg0};
+ghost use Rattle.states.specs.Types.{sets_arg0, state_number};
 ghost use Rattle.states.specs.States.{default_combiner, default_stage, defaults, set_stage, stages_for, wide_stages};
 ghost use Rattle.states.specs.Writes.{checked_write, got_state, state_write_number, write_applied};
 
@@ -29,11 +29,10 @@ pub fn sets_arg0(state: u8) -> bool
     }
 }
 
-// Whether a write is accepted: its stage is looked at first, then its type, then its value.
-#[tactic(auto, unfolding(crate::specs::Writes::checked_write, crate::specs::Writes::state_write_number))]
-pub fn check(write: StateWrite) -> Result<(), Refusal>
-    ensures answer { result ≡ checked_write write }
-    ensures number { answer_number result ≡ state_write_number write }
+// The state that a write is to, if the write is accepted: its stage is looked at first, then its type, then its value.
+#[tactic(auto, unfolding(crate::specs::Writes::checked_write))]
+fn checked_state(write: StateWrite) -> Result<StageState, Refusal>
+    ensures { MatchResult result (λ s. (state_number s ≡ write.state) × (checked_write write ≡ Ok tt)) (λ c. checked_write write ≡ Err c) }
 {
     if LAST_STAGE < write.stage {
         return Err(Refusal::StageNumber);
@@ -42,6 +41,16 @@ pub fn check(write: StateWrite) -> Result<(), Refusal>
     if !state.takes(write.value) {
         return Err(Refusal::StateValue);
     }
+    Ok(state)
+}
+
+// Whether a write is accepted.
+#[tactic(auto, using(crate::proofs::Accepted::accepted_number, crate::proofs::Accepted::refused_number))]
+pub fn check(write: StateWrite) -> Result<(), Refusal>
+    ensures answer { result ≡ checked_write write }
+    ensures number { answer_number result ≡ state_write_number write }
+{
+    checked_state(write)?;
     Ok(())
 }
 
@@ -143,10 +152,10 @@ pub fn set_stage(stage: Stage, state: u8, value: u8) -> Stage
 }
 
 // The stages that a write alters: a write of an argument 0 turns the key to kind 6.
-fn stages_for(state: u8, key: Key) -> [Stage; 8]
-    ensures { result ≡ stages_for state key }
+fn stages_for(state: StageState, key: Key) -> [Stage; 8]
+    ensures { result ≡ stages_for (state_number state) key }
 {
-    if sets_arg0(state) {
+    if state.sets_arg0() {
         wide_stages(key)
     } else {
         key.stages
@@ -157,15 +166,15 @@ fn stages_for(state: u8, key: Key) -> [Stage; 8]
 pub fn set(key: Key, write: StateWrite) -> Key
     ensures { result ≡ write_applied write key }
 {
-    if check(write).is_err() {
+    let Ok(state) = checked_state(write) else {
         return key;
-    }
+    };
     let i = write.stage as usize;
-    let mut stages = stages_for(write.state, key);
-    stages[i] = set_stage(stages[i], write.state, write.value as u8);
+    let mut stages = stages_for(state, key);
+    stages[i] = state.set(stages[i], write.value as u8);
     Key {
         stages,
-        wide: key.wide | sets_arg0(write.state),
+        wide: key.wide | state.sets_arg0(),
         ..key
     }
 }
