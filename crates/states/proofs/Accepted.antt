@@ -77,3 +77,13 @@ accepted_number w e = sym (ap answer_number e) ∙ numbered w
 
 pub refused_number : (w : StateWrite) {c : Refusal} → checked_write w ≡ Err c → number_of c ≡ state_write_number w
 refused_number w e = sym (ap answer_number e) ∙ numbered w
+
+-- so its stage is one of the eight, and its value a byte
+accepts : (w : StateWrite) → checked_write w ≡ Ok tt → Accepted w
+accepts w e = free w (is_accepted w (sym e) refl)
+
+pub accepted_stage : (w : StateWrite) → checked_write w ≡ Ok tt → w.stage < 8
+accepted_stage w e = (accepts w e).stage
+
+pub accepted_value : (w : StateWrite) → checked_write w ≡ Ok tt → w.value < 256
+accepted_value w e = takes_byte w.state w.value (accepts w e).value

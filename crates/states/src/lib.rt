@@ -163,6 +163,7 @@ fn stages_for(state: StageState, key: Key) -> [Stage; 8]
 }
 
 // The key after a write. A write that `check` refuses leaves the key as it is.
+#[tactic(auto, using(crate::proofs::Accepted::accepted_stage, crate::proofs::Accepted::accepted_value))]
 pub fn set(key: Key, write: StateWrite) -> Key
     ensures { result ≡ write_applied write key }
 {
