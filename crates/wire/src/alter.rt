@@ -3,7 +3,7 @@ ghost use Rattle.std.specs.Prelude.{◌+◌, ◌*◌, ◌≤◌, ◌≡◌, drop
 ghost use Rattle.wire.specs.Bodies.{stage_from_bytes, stage_size};
 ghost use Rattle.wire.specs.Altering.{Alterable, body_with};
 
-use crate::reader::{STAGE_BYTES, WIDE_STAGE_BYTES, stage_at};
+use crate::reader::{stage_at, stage_size};
 use crate::writer::put_stage;
 use states::set_stage;
 use values::{Stage, StateWrite};
@@ -12,12 +12,7 @@ use values::{Stage, StateWrite};
 fn stage_place(wide: bool, stage: u8) -> usize
     ensures { result ≡ stage_size wide * stage }
 {
-    let i = stage as usize;
-    if wide {
-        WIDE_STAGE_BYTES * i
-    } else {
-        STAGE_BYTES * i
-    }
+    stage_size(wide) * stage as usize
 }
 
 // The stage whose bytes begin at a place: nine of them, if it is wide, or seven.

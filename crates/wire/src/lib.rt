@@ -15,14 +15,15 @@ ghost use Rattle.wire.specs.Values.{key_record};
 
 use values::Refusal;
 
+// The kind of a record, with the byte that a record of each kind begins with.
 #[derive(Clone, Copy)]
 pub enum Kind {
-    Key,
-    Variant,
-    Entry,
-    Emit,
-    State,
-    WideKey,
+    Key = 1,
+    Variant = 2,
+    Entry = 3,
+    Emit = 4,
+    State = 5,
+    WideKey = 6,
 }
 
 // A record by value: that of its kind.
@@ -43,18 +44,18 @@ pub struct Reading {
     pub length: usize,
 }
 
-// The byte that a record of each kind begins with.
-pub const KIND_KEY: u8 = 1;
+// The byte of each kind.
+pub const KIND_KEY: u8 = Kind::Key as u8;
 
-pub const KIND_VARIANT: u8 = 2;
+pub const KIND_VARIANT: u8 = Kind::Variant as u8;
 
-pub const KIND_ENTRY: u8 = 3;
+pub const KIND_ENTRY: u8 = Kind::Entry as u8;
 
-pub const KIND_EMIT: u8 = 4;
+pub const KIND_EMIT: u8 = Kind::Emit as u8;
 
-pub const KIND_STATE: u8 = 5;
+pub const KIND_STATE: u8 = Kind::State as u8;
 
-pub const KIND_WIDE_KEY: u8 = 6;
+pub const KIND_WIDE_KEY: u8 = Kind::WideKey as u8;
 
 // How many bytes follow the kind byte.
 const KEY_BODY: usize = 58;
@@ -73,14 +74,7 @@ impl From<Kind> for u8 {
     ghost from_gives = { λ kind byte. byte ≡ kind_byte kind };
 
     fn from(kind: Kind) -> u8 {
-        match kind {
-            Kind::Key => KIND_KEY,
-            Kind::Variant => KIND_VARIANT,
-            Kind::Entry => KIND_ENTRY,
-            Kind::Emit => KIND_EMIT,
-            Kind::State => KIND_STATE,
-            Kind::WideKey => KIND_WIDE_KEY,
-        }
+        kind as u8
     }
 }
 

@@ -161,8 +161,8 @@ fn specular_in(kind: Kind, body: &[u8]) -> u8
     ensures { result ≡ specular_in kind body.now }
 {
     match kind {
-        Kind::Key => body[SPECULAR_AT],
-        Kind::WideKey => body[WIDE_SPECULAR_AT],
+        Kind::Key => body[specular_at(false)],
+        Kind::WideKey => body[specular_at(true)],
         _ => 0,
     }
 }
@@ -191,8 +191,6 @@ pub fn read(bytes: &[u8]) -> Result<Reading, Refusal>
     ensures record { result ≡ read_record bytes.now }
     ensures number { answer_number result ≡ record_number bytes.now }
 {
-    let Some((byte, body)) = bytes.split_first() else {
-        return Err(Refusal::CutShort);
-    };
+    let (byte, body) = bytes.split_first().ok_or(Refusal::CutShort)?;
     read_as(Kind::try_from(*byte)?, body)
 }
