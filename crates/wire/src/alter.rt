@@ -8,13 +8,6 @@ use crate::writer::put_stage;
 use states::set_stage;
 use values::{Stage, StateWrite};
 
-// Where a stage begins.
-fn stage_place(wide: bool, stage: u8) -> usize
-    ensures { result ≡ stage_size wide * stage }
-{
-    stage_size(wide) * stage as usize
-}
-
 // The stage whose bytes begin at a place: nine of them, if it is wide, or seven.
 fn stage_in(body: &[u8], at: usize, wide: bool) -> Stage
     requires { at + stage_size wide ≤ length body.now }
@@ -31,7 +24,7 @@ pub fn alter(body: &mut [u8], wide: bool, write: StateWrite)
     requires { Alterable wide body.old write }
     ensures { body.new ≡ body_with wide body.old write }
 {
-    let at = stage_place(wide, write.stage);
+    let at = stage_size(wide) * write.stage as usize;
     let before = stage_in(body, at, wide);
     let after = set_stage(before, write.state, write.value as u8);
     put_stage(body, at, after, wide);

@@ -7,7 +7,7 @@ use Rattle.wire.proofs.alter.alter.Goals as goal
 pub stage_in-before-requires : goal.stage_in-before-requires
 stage_in-before-requires c =
     let i = (free c.args.write c.requires.taken).stage in
-    omega (arith, c.stage_place-at.ensures, stage_within c.args.wide c.args.write.stage i, c.requires.whole)
+    rw c.stage_size.ensures (omega (arith, stage_within c.args.wide c.args.write.stage i, c.requires.whole))
 
 pub overflow_cast-write : goal.overflow_cast-write
 overflow_cast-write c =
@@ -16,5 +16,5 @@ overflow_cast-write c =
 
 pub returns : goal.returns
 returns c =
-    let written = rw (c.set_stage-after.ensures, c.stage_in-before.ensures, c.stage_place-at.ensures) at c.put_stage.ensures in
+    let written = rw (c.set_stage-after.ensures, c.stage_in-before.ensures, c.stage_size.ensures) at c.put_stage.ensures in
     altered_body c.args.wide c.args.body.now c.args.write c.requires written
