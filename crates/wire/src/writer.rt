@@ -53,13 +53,20 @@ fn put_mask(out: &mut [u8], at: usize, mask: u16) -> usize
 fn put_masks(out: &mut [u8], at: usize, v: Variant) -> usize
     ensures { Wrote out.old at out.new result (raw (masks_bytes v)) }
 {
-    let a = put_mask(out, at, v.depth_sampler);
-    let b = put_mask(out, a, v.depth_fetch);
-    let c = put_mask(out, b, v.fetch4);
-    let d = put_mask(out, c, v.fetch4_alpha);
-    let e = put_mask(out, d, v.raw_depth_red);
-    let f = put_mask(out, e, v.volume);
-    put_mask(out, f, v.cube)
+    let masks = [
+        v.depth_sampler,
+        v.depth_fetch,
+        v.fetch4,
+        v.fetch4_alpha,
+        v.raw_depth_red,
+        v.volume,
+        v.cube,
+    ];
+    let mut p = at;
+    for mask in masks {
+        p = put_mask(out, p, mask);
+    }
+    p
 }
 
 fn put_variant(out: &mut [u8], at: usize, v: Variant) -> usize
