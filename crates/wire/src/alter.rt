@@ -8,24 +8,13 @@ use crate::writer::put_stage;
 use states::set_stage;
 use values::{Stage, StateWrite};
 
-// The stage whose bytes begin at a place: nine of them, if it is wide, or seven.
-fn stage_in(body: &[u8], at: usize, wide: bool) -> Stage
-    requires { at + stage_size wide ≤ length body.now }
-    ensures { result ≡ stage_from_bytes wide (drop at body.now) }
-{
-    if wide {
-        return stage_at::<true>(body, at);
-    }
-    stage_at::<false>(body, at)
-}
-
 // Does a write to the body of a key, of kind 6 if it is wide. A body of kind 1 has no arguments 0, so a write of one leaves it.
 pub fn alter(body: &mut [u8], wide: bool, write: StateWrite)
     requires { Alterable wide body.old write }
     ensures { body.new ≡ body_with wide body.old write }
 {
     let at = stage_size(wide) * write.stage as usize;
-    let before = stage_in(body, at, wide);
+    let before = stage_at(body, at, wide);
     let after = set_stage(before, write.state, write.value as u8);
     put_stage(body, at, after, wide);
 }

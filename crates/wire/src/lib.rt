@@ -26,7 +26,7 @@ pub enum Kind {
     WideKey = 6,
 }
 
-// A record by value: that of its kind.
+// A record by value: that of its kind. A key is written in a record of either kind, whichever its own is, so both kinds have a case.
 #[derive(Clone, Copy)]
 pub enum Record {
     Key(Key),

@@ -1,6 +1,7 @@
 //! The reader: the record at the front of some bytes, or why there is none.
 //!
-//! A body is a slice that may go on behind its kind's length, which a `requires` names: an array would ask more of callers.
+//! A body is a slice, whose least length a `requires` names: it may go on behind that, and an array would ask more of callers. Nor could a function for
+//! keys of both kinds name an array, since no const argument is computed.
 ghost use Rattle.std.specs.Prelude.{◌+◌, ◌*◌, ◌≤◌, ◌<◌, ◌≡◌, drop, length};
 ghost use Rattle.values.specs.Refusals.{answer_number};
 ghost use Rattle.wire.specs.Bodies.{body_length, entry_from_body, key_from_body, key_kind, mask_at, record_from_body, specular_at};
@@ -13,12 +14,12 @@ use states::DEFAULT_ARG0;
 use values::{Combiner, Entry, Key, Refusal, Stage, StateWrite, Variant};
 
 // How many bytes a stage has in a key of each kind.
-pub(crate) const STAGE_BYTES: usize = 7;
+pub const STAGE_BYTES: usize = 7;
 
-pub(crate) const WIDE_STAGE_BYTES: usize = 9;
+const WIDE_STAGE_BYTES: usize = 9;
 
 // Where specular add stands in a key's body, behind the eight stages; the projected mask stands behind it.
-const SPECULAR_AT: usize = 8 * STAGE_BYTES;
+pub const SPECULAR_AT: usize = 8 * STAGE_BYTES;
 
 const WIDE_SPECULAR_AT: usize = 8 * WIDE_STAGE_BYTES;
 
@@ -34,12 +35,12 @@ pub fn specular_at(wide: bool) -> usize
     if wide { WIDE_SPECULAR_AT } else { SPECULAR_AT }
 }
 
-// The stage whose bytes begin at a place. One of seven bytes has the default for its arguments 0.
-pub(crate) fn stage_at<const WIDE: bool>(body: &[u8], at: usize) -> Stage
-    requires { at + stage_size WIDE ≤ length body.now }
-    ensures { result ≡ stage_from_bytes WIDE (drop at body.now) }
+// The stage whose bytes begin at a place: nine of them, if it is wide, or seven, with the default for its arguments 0.
+pub(crate) fn stage_at(body: &[u8], at: usize, wide: bool) -> Stage
+    requires { at + stage_size wide ≤ length body.now }
+    ensures { result ≡ stage_from_bytes wide (drop at body.now) }
 {
-    let (colour_arg0, alpha_arg0, flags) = if WIDE {
+    let (colour_arg0, alpha_arg0, flags) = if wide {
         (body[at + 6], body[at + 7], body[at + 8])
     } else {
         (DEFAULT_ARG0, DEFAULT_ARG0, body[at + 6])
@@ -61,17 +62,11 @@ pub(crate) fn stage_at<const WIDE: bool>(body: &[u8], at: usize) -> Stage
     }
 }
 
-fn stages_from_body<const WIDE: bool>(body: &[u8]) -> [Stage; 8]
-    requires { body_length (key_kind WIDE) ≤ length body.now }
-    ensures { result ≡ stages_from_bytes WIDE 8 body.now }
+fn stages_from_body(body: &[u8], wide: bool) -> [Stage; 8]
+    requires { body_length (key_kind wide) ≤ length body.now }
+    ensures { result ≡ stages_from_bytes wide 8 body.now }
 {
-    // A loop's invariant can name a variable, and no const parameter that is a bool.
-    let wide = WIDE;
-    let mut stages = [Stage::default(); 8];
-    for i in 0..8 {
-        stages[i] = stage_at::<WIDE>(body, stage_size(wide) * i);
-    }
-    stages
+    std::array::from_fn(|i| stage_at(body, stage_size(wide) * i, wide))
 }
 
 // A key of kind 6, if it is wide, or of kind 1.
@@ -82,7 +77,7 @@ pub fn key_from_body<const WIDE: bool>(body: &[u8]) -> Key
 {
     let at = specular_at(WIDE);
     Key {
-        stages: stages_from_body::<WIDE>(body),
+        stages: stages_from_body(body, WIDE),
         specular_add: body[at] == 1,
         projected: body[at + 1],
         wide: WIDE,

@@ -4,8 +4,8 @@ use Rattle.states.proofs.Accepted.{free, takes_byte}
 use Rattle.wire.proofs.Altered.{altered_body, stage_within}
 use Rattle.wire.proofs.alter.alter.Goals as goal
 
-pub stage_in-before-requires : goal.stage_in-before-requires
-stage_in-before-requires c =
+pub stage_at-before-requires : goal.stage_at-before-requires
+stage_at-before-requires c =
     let i = (free c.args.write c.requires.taken).stage in
     rw c.stage_size.ensures (omega (arith, stage_within c.args.wide c.args.write.stage i, c.requires.whole))
 
@@ -16,5 +16,5 @@ overflow_cast-write c =
 
 pub returns : goal.returns
 returns c =
-    let written = rw (c.set_stage-after.ensures, c.stage_in-before.ensures, c.stage_size.ensures) at c.put_stage.ensures in
+    let written = rw (c.set_stage-after.ensures, c.stage_at-before.ensures, c.stage_size.ensures) at c.put_stage.ensures in
     altered_body c.args.wide c.args.body.now c.args.write c.requires written

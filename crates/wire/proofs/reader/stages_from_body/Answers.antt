@@ -1,17 +1,16 @@
--- One more stage is read behind those that were.
-use Rattle.std.proofs.Common.{arith, rules, refl, length-set}
-use Rattle.wire.specs.Bodies.{stages_from_bytes}
-use Rattle.wire.proofs.Laws.{stage_read}
+-- Each of the eight stages is read where it stands.
+use Rattle.std.proofs.Common.{rules, ℕ, ◌*◌, drop, sym, ap, ◌∙◌}
+use Rattle.values.specs.declared.Stage.{Stage}
+use Rattle.wire.specs.Bodies.{stage_size, stage_from_bytes, stages_from_bytes}
+use Rattle.wire.proofs.Laws.{made, none_before, stages_made}
 use Rattle.wire.proofs.reader.stages_from_body.Goals as goal
 
-pub loop-i-init : goal.loop-i-init
-unfolding stages_from_bytes
-loop-i-init g c = record { eight = search rules; read = refl }
-
-pub loop-i-preserved : goal.loop-i-preserved
-loop-i-preserved g c =
-    let v = c.loop-i.invariant in
-    record {
-      eight = simp length-set v.eight;
-      read = rw (c.stage_at.ensures, c.stage_size.ensures) (stage_read _ c.args.body.now _ c.loop-i.i (omega arith) v.read);
-    }
+pub returns : goal.returns
+returns c =
+    let wide = c.args.wide in
+    let b = c.args.body.now in
+    let items = c.from_fn.ensures.items in
+    let stage : ℕ → Stage = λ k. stage_from_bytes wide (drop (stage_size wide * k) b) in
+    made _ stage c.from_fn.result (λ k r f h. search rules) 0 8 items.each items.long
+    ∙ stages_made wide b 0 8
+    ∙ ap (λ (n : ℕ). stages_from_bytes wide 8 (drop n b)) (sym (none_before wide))
