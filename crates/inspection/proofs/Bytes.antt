@@ -6,13 +6,13 @@ use mathlib.Core.List.{List, [], ◌∷◌, ◌++◌}
 use native.Mathlib.Numerals.{add-one}
 use native.Mathlib.Omega.{arith}
 use lib.Dec.{leb}
-use lib.ListN.{length, take, drop, get_or, set}
-use lib.Seq.{take-suc, take-suc-set, drop-drop, get_or-drop}
+use lib.ListN.{length, take, drop, get_or}
+use lib.Seq.{take-suc, drop-drop, get_or-drop}
 use Rattle.combiners.specs.Combiners.{three_operands}
 use Rattle.values.specs.Flags.{stage_flags_bad}
 use Rattle.values.specs.declared.Stage.{Stage}
 use Rattle.wire.specs.Bodies.{stage_size, stage_from_bytes, stages_from_bytes}
-use Rattle.wire.proofs.Laws.{next_stage}
+use Rattle.wire.proofs.Laws.{each_at, next_stage}
 use Rattle.inspection.specs.Raw.{any_byte_of_three, raw_stage, raw_stages}
 
 or_assoc : (a b c : Bool) → ((a || b) || c) ≡ (a || (b || c))
@@ -28,16 +28,13 @@ pub byte_asked : (l : List ℕ) (i : ℕ) {found here : Bool} → i < length l �
     → (found || here) ≡ any_byte_of_three (take (i + 1) l)
 byte_asked l i h f t = rw (f, t, add-one, take-suc l i 0 h) (sym (any_behind (take i l) (get_or l i 0)))
 
-next_raw : (n : ℕ) (b : List ℕ) → raw_stages (suc n) b ≡ raw_stages n b ++ (raw_stage (drop (7 * n) b) ∷ [])
+-- the stages of a body, each read where it stands
+pub stages_made : (b : List ℕ) (i n : ℕ) → each_at (λ k. raw_stage (drop (7 * k) b)) i n ≡ raw_stages n (drop (7 * i) b)
 unfolding raw_stages
-next_raw zero b = refl
-next_raw (suc n) b =
-    let e : drop (7 * n) (drop 7 b) ≡ drop (7 * suc n) b = drop-drop (7 * n) 7 b ∙ ap (λ (k : ℕ). drop k b) (omega arith) in
-    ap (λ (l : List Stage). raw_stage b ∷ l) (next_raw n (drop 7 b) ∙ ap (λ (l : List ℕ). raw_stages n (drop 7 b) ++ (raw_stage l ∷ [])) e)
-
-pub stage_read : (b : List ℕ) (l : List Stage) (i : ℕ) → i < length l → take i l ≡ raw_stages i b →
-    take (i + 1) (set l i (raw_stage (drop (7 * i) b))) ≡ raw_stages (i + 1) b
-stage_read b l i h e = rw (add-one, take-suc-set l i _ h, e, next_raw i b)
+stages_made b i zero = refl
+stages_made b i (suc n) =
+    let e : drop 7 (drop (7 * i) b) ≡ drop (7 * (i + 1)) b = drop-drop 7 (7 * i) b ∙ ap (λ (k : ℕ). drop k b) (omega arith) in
+    rw (e, stages_made b (i + 1) n)
 
 flags_behind : (l : List Stage) (s : Stage) → stage_flags_bad (l ++ (s ∷ [])) ≡ stage_flags_bad l || leb 4 s.flags
 unfolding stage_flags_bad

@@ -9,6 +9,10 @@ use lib.Dec.{eqb}
 use lib.ListN.{get_or}
 use Rattle.std.specs.Prelude.{Result, Ok, Err}
 use Rattle.values.specs.Flags.{stage_flags_bad}
+use Rattle.values.specs.Entries.{entry_good}
+use Rattle.values.specs.Words.{entry_reserved}
+use Rattle.values.specs.Checks.{checked_entry}
+use Rattle.values.specs.declared.Entry.{Entry}
 use Rattle.values.specs.Refusals.{number_of, answer_number}
 use Rattle.values.specs.declared.Refusal.{Refusal}
 use Rattle.values.specs.declared.Refusal.TheVariants.{CutShort, UnknownKind, StageFlags, SpecularAdd, VariantFlags, EntryName, EmitTooEarly, NoRoom}
@@ -26,6 +30,16 @@ pub of_key : (wide : Bool) (b : List ℕ) → key_number wide b ≡ body_number 
 unfolding body_number
 of_key true b = refl
 of_key false b = refl
+
+-- the number of an entry
+pub entry_number : (e : Entry) {r : Result (Unit {0}) Refusal} → r ≡ checked_entry e
+    → answer_number r ≡ cond (entry_good e) (cond (entry_reserved e) 13 0) 6
+entry_number e h = ap answer_number h ∙ go (entry_good e) (entry_reserved e)
+  where
+    go : (a b : Bool) → answer_number (cond a (cond b (Err ReservedWord) (Ok (tt {0}))) (Err EntryName)) ≡ cond a (cond b 13 0) 6
+    go true true = refl
+    go true false = refl
+    go false b = refl
 
 -- A refusal's number is not 0, and tells which refusal it is; a kind's byte tells the kind.
 

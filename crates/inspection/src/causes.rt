@@ -1,6 +1,6 @@
 //! The causes 1 to 6 and 10 to 13 of a record, found on its bytes: of a key and a variant no value is made.
 //!
-//! As for the reader, a body is a slice and no array, which would ask more of callers.
+//! A body is a slice, for the reasons that the reader names.
 ghost use Rattle.std.specs.Prelude.{◌≤◌, ◌≡◌, cond, ltb, length};
 ghost use Rattle.values.specs.Flags.{stage_flags_bad};
 ghost use Rattle.values.specs.Refusals.{answer_number};
@@ -8,26 +8,20 @@ ghost use Rattle.wire.specs.Bodies.{body_length, key_from_body, key_kind};
 ghost use Rattle.wire.specs.Reading.{body_number, read_record, record_number};
 ghost use Rattle.inspection.specs.Kinds.{kind_read};
 
-use admission::{entry_good, entry_reserved};
+use admission::{UNUSED_STAGE_FLAG, UNUSED_VARIANT_FLAG, check_entry};
 use states::check;
 use values::Refusal;
 use wire::reader::{entry_from_body, specular_at, stage_size, state_from_body};
 use wire::{Kind, body_length};
 
-// The lowest flag bit without a meaning: bit 2 of a stage, bit 6 of a variant.
-const UNUSED_STAGE_FLAG: u8 = 4;
-
-const UNUSED_VARIANT_FLAG: u8 = 64;
-
 // Where a variant's body has its flags.
 const VARIANT_FLAGS_AT: usize = 18;
 
 // The flags of a stage are the last of its bytes. All eight are asked, with no branch between them.
-fn key_flags_bad<const WIDE: bool>(body: &[u8]) -> bool
-    requires { body_length (key_kind WIDE) ≤ length body.now }
-    ensures { result ≡ stage_flags_bad (key_from_body WIDE body.now).stages }
+fn key_flags_bad(body: &[u8], wide: bool) -> bool
+    requires { body_length (key_kind wide) ≤ length body.now }
+    ensures { result ≡ stage_flags_bad (key_from_body wide body.now).stages }
 {
-    let wide = WIDE;
     let size = stage_size(wide);
     let mut bad = false;
     for i in 0..8 {
@@ -42,7 +36,7 @@ pub fn key_cause<const WIDE: bool>(body: &[u8]) -> Result<(), Refusal>
     requires { body_length (key_kind WIDE) ≤ length body.now }
     ensures { answer_number result ≡ body_number (key_kind WIDE) body.now }
 {
-    if key_flags_bad::<WIDE>(body) {
+    if key_flags_bad(body, WIDE) {
         return Err(Refusal::StageFlags);
     }
     if 1 < body[specular_at(WIDE)] {
@@ -62,27 +56,12 @@ pub fn variant_cause(body: &[u8]) -> Result<(), Refusal>
     Ok(())
 }
 
-#[tactic(auto, unfolding(wire::specs::Reading::body_number))]
+#[tactic(auto, unfolding(wire::specs::Reading::body_number), using(crate::proofs::Numbers::entry_number))]
 pub fn entry_cause(body: &[u8]) -> Result<(), Refusal>
     requires { body_length Kind.Entry ≤ length body.now }
     ensures { answer_number result ≡ body_number Kind.Entry body.now }
 {
-    let entry = entry_from_body(body);
-    if !entry_good(entry) {
-        return Err(Refusal::EntryName);
-    }
-    if entry_reserved(entry) {
-        return Err(Refusal::ReservedWord);
-    }
-    Ok(())
-}
-
-#[tactic(auto, unfolding(wire::specs::Reading::body_number))]
-fn state_cause(body: &[u8]) -> Result<(), Refusal>
-    requires { body_length Kind.State ≤ length body.now }
-    ensures { answer_number result ≡ body_number Kind.State body.now }
-{
-    check(state_from_body(body))
+    check_entry(entry_from_body(body))
 }
 
 // Of the body of a kind at the front of some bytes. Each kind has causes of its own: a table of functions would be the same match.
@@ -98,7 +77,7 @@ pub fn kind_cause(kind: Kind, body: &[u8]) -> Result<(), Refusal>
         Kind::Variant => variant_cause(body),
         Kind::Entry => entry_cause(body),
         Kind::Emit => Ok(()),
-        Kind::State => state_cause(body),
+        Kind::State => check(state_from_body(body)),
         Kind::WideKey => key_cause::<true>(body),
     }
 }

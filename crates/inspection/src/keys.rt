@@ -1,6 +1,6 @@
 //! A key of kind 1 as its bytes lie.
 //!
-//! As for the reader, a body is a slice and no array, which would ask more of callers.
+//! A body is a slice, for the reasons that the reader names.
 ghost use Rattle.std.specs.Prelude.{◌+◌, ◌≤◌, ◌≡◌, drop, length, take};
 ghost use Rattle.wire.specs.Bodies.{body_length};
 ghost use Rattle.inspection.specs.Raw.{any_byte_of_three, raw_key, raw_stage, raw_stages};
@@ -8,11 +8,7 @@ ghost use Rattle.inspection.specs.Raw.{any_byte_of_three, raw_key, raw_stage, ra
 use combiners::ops::three_operands;
 use values::{Combiner, Key, Stage};
 use wire::Kind;
-
-const STAGE_BYTES: usize = 7;
-
-// Where the stages end, and specular add stands.
-const SPECULAR_AT: usize = 8 * STAGE_BYTES;
+use wire::reader::{SPECULAR_AT, STAGE_BYTES};
 
 // The stage whose seven bytes begin at a place.
 fn raw_stage(body: &[u8], at: usize) -> Stage
@@ -42,11 +38,7 @@ fn raw_stages(body: &[u8]) -> [Stage; 8]
     requires { body_length Kind.Key ≤ length body.now }
     ensures { result ≡ raw_stages 8 body.now }
 {
-    let mut stages = [Stage::default(); 8];
-    for i in 0..8 {
-        stages[i] = raw_stage(body, STAGE_BYTES * i);
-    }
-    stages
+    std::array::from_fn(|i| raw_stage(body, STAGE_BYTES * i))
 }
 
 #[tactic(auto, unfolding(crate::specs::Raw::raw_key))]

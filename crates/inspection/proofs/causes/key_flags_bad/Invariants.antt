@@ -5,4 +5,4 @@ use Rattle.wire.specs.Bodies.{stages_from_bytes}
 use Rattle.inspection.proofs.causes.key_flags_bad.Given as goal
 
 abbrev pub invariant-loop-i : goal.invariant-loop-i
-invariant-loop-i g l = l.bad ≡ stage_flags_bad (stages_from_bytes l.wide l.i l.body)
+invariant-loop-i l = l.bad ≡ stage_flags_bad (stages_from_bytes l.wide l.i l.body)

@@ -1,14 +1,13 @@
--- One more stage is read at each step.
-use Rattle.std.proofs.Common.{arith, refl, length-set}
-use Rattle.inspection.specs.Raw.{raw_stages}
-use Rattle.inspection.proofs.Bytes.{stage_read}
+-- Each of the eight stages is read where it stands.
+use Rattle.std.proofs.Common.{rules, ℕ, ◌*◌, drop, ◌∙◌}
+use Rattle.values.specs.declared.Stage.{Stage}
+use Rattle.wire.proofs.Laws.{made}
+use Rattle.inspection.specs.Raw.{raw_stage}
+use Rattle.inspection.proofs.Bytes.{stages_made}
 use Rattle.inspection.proofs.keys.raw_stages.Goals as goal
 
-pub loop-i-init : goal.loop-i-init
-unfolding raw_stages
-loop-i-init c = record { eight = refl; read = refl }
-
-pub loop-i-preserved : goal.loop-i-preserved
-loop-i-preserved c =
-    let i = c.loop-i.invariant in
-    record { eight = simp length-set i.eight; read = rw c.raw_stage.ensures (stage_read _ _ c.loop-i.i (omega (arith, i.eight)) i.read) }
+pub returns : goal.returns
+returns c =
+    let items = c.from_fn.ensures.items in
+    let stage : ℕ → Stage = λ k. raw_stage (drop (7 * k) c.args.body.now) in
+    made _ stage c.from_fn.result (λ k r f h. search rules) 0 8 items.each items.long ∙ stages_made c.args.body.now 0 8
