@@ -1,6 +1,6 @@
 -- What an accepted emission answers and writes, from what its parts promise.
 use Prim.Native.Nat.{ℕ, ◌≤◌, ◌<◌}
-use mathlib.Core.Bool.{true, false}
+use mathlib.Core.Bool.{Bool, true, false, not, cond}
 use mathlib.Core.Path.{◌≡◌, refl, ap, sym, subst, ◌∙◌}
 use mathlib.Core.List.{List, ◌++◌}
 use mathlib.Core.Logic.{by_cases}
@@ -22,10 +22,10 @@ use Rattle.cascade.specs.Survey.{survey_of}
 use Rattle.values.specs.declared.Key.{Key}
 use Rattle.cascade.specs.declared.Survey.{Survey}
 use Rattle.shader.specs.Whole.{body_text, whole_text}
-use Rattle.values.specs.Flags.{stage_flags_bad, variant_flags_bad}
 use Rattle.values.specs.Entries.{entry_good}
 use Rattle.values.specs.Words.{entry_reserved}
 use Rattle.values.specs.Admitted.{Admitted}
+use Rattle.values.specs.Checks.{checked_key, checked_variant, checked_entry}
 use Rattle.shader.specs.Results.{text_of, in_front, buffer_after, alpha_warning, emitted_of, answer_of, emission_number}
 use Rattle.values.specs.Refusals.{answer_number}
 use Rattle.shader.specs.Demand.{Demands, Demanded}
@@ -52,24 +52,50 @@ pub copied : (t out aside rest : List ℕ) {out' : List ℕ} {n at : ℕ} → n 
     → Wrote out 0 out' at (raw (take n aside)) → out' ≡ in_front t out
 copied t out aside rest e f h w = whole (rw (f, take_at t rest _ (sym e)) at w) h
 
+-- what a check refuses, and that what passes is free of the cause
+abbrev Checked : Type 0
+Checked = Result (Unit {0}) Refusal
+
+refused : {A : Type 0} (t : Bool) (d : Refusal) {c : Refusal} (x : Result A Refusal) → ◌≡◌ {A = Checked} (Err c) (cond t (Err d) (Ok tt)) → Err c ≡ cond t (Err d) x
+refused true d x h = cc
+refused false d x h = cc
+
+free : (t : Bool) (d : Refusal) → ◌≡◌ {A = Checked} (Ok tt) (cond t (Err d) (Ok tt)) → t ≡ false
+free true d h = cc
+free false d h = refl
+
+abbrev entry_checked : Bool → Bool → Checked
+entry_checked g w = cond g (cond w (Err ReservedWord) (Ok tt)) (Err EntryName)
+
+named_refused : (g w : Bool) {c : Refusal} (x : Result Emitted Refusal) → Err c ≡ entry_checked g w →
+    Err c ≡ cond (not g) (Err EntryName) (cond w (Err ReservedWord) x)
+named_refused true true x h = cc
+named_refused true false x h = cc
+named_refused false w x h = cc
+
+named : (g w : Bool) → Ok tt ≡ entry_checked g w → (g ≡ true) × (w ≡ false)
+named true true h = cc
+named true false h = (refl, refl)
+named false w h = cc
+
+pub admitted : (k : Key) (v : Variant) (e : Entry) → Ok tt ≡ checked_key k → Ok tt ≡ checked_variant v → Ok tt ≡ checked_entry e → Admitted k v e
+admitted k v e p q r =
+    let n = named (entry_good e) (entry_reserved e) r in
+    record { stage_flags = free _ StageFlags p; variant_flags = free _ VariantFlags q; entry_name = n.0; entry_word = n.1 }
+
 -- The first cause that holds is the one that is answered; of admitted values the room alone decides.
 module _ (k : Key) (v : Variant) (e : Entry) (room : ℕ) where
-  pub stage_flags_lem : stage_flags_bad k.stages ≡ true → Err StageFlags ≡ answer_of k v e room
+  pub key_refused : {c : Refusal} → Err c ≡ checked_key k → Err c ≡ answer_of k v e room
   unfolding answer_of
-  stage_flags_lem s = rw s
+  key_refused h = refused _ StageFlags _ h
 
-  pub variant_flags_lem : stage_flags_bad k.stages ≡ false → variant_flags_bad v ≡ true → Err VariantFlags ≡ answer_of k v e room
+  pub variant_refused : {c : Refusal} → Ok tt ≡ checked_key k → Err c ≡ checked_variant v → Err c ≡ answer_of k v e room
   unfolding answer_of
-  variant_flags_lem s f = rw (s, f)
+  variant_refused p h = rw (free _ StageFlags p) (refused _ VariantFlags _ h)
 
-  pub entry_name_lem : stage_flags_bad k.stages ≡ false → variant_flags_bad v ≡ false → entry_good e ≡ false → Err EntryName ≡ answer_of k v e room
+  pub entry_refused : {c : Refusal} → Ok tt ≡ checked_key k → Ok tt ≡ checked_variant v → Err c ≡ checked_entry e → Err c ≡ answer_of k v e room
   unfolding answer_of
-  entry_name_lem s f n = rw (s, f, n)
-
-  pub reserved_word_lem : stage_flags_bad k.stages ≡ false → variant_flags_bad v ≡ false → entry_good e ≡ true → entry_reserved e ≡ true
-      → Err ReservedWord ≡ answer_of k v e room
-  unfolding answer_of
-  reserved_word_lem s f n w = rw (s, f, n, w)
+  entry_refused p q h = rw (free _ StageFlags p, free _ VariantFlags q) (named_refused (entry_good e) (entry_reserved e) _ h)
 
   pub no_room : Admitted k v e → room < length (text_of k v e) → Err NoRoom ≡ answer_of k v e room
   unfolding answer_of

@@ -12,6 +12,7 @@ ghost use Rattle.shader.specs.Demand.{Demanded};
 ghost use Rattle.values.specs.Admitted.{Admitted};
 ghost use Rattle.values.specs.Refusals.{answer_number};
 
+use admission::{check_entry, check_key, check_variant};
 use cascade::effective::effective;
 use cascade::surveyed::Surveyed;
 use function::{Place, put_whole};
@@ -84,18 +85,9 @@ pub fn emit(key: Key, variant: Variant, entry: Entry, out: &mut [u8]) -> Result<
     ensures names { Demanded key result out.new }
     ensures number { answer_number result ≡ emission_number key variant entry (length out.old) }
 {
-    if admission::stage_flags_bad(key) {
-        return Err(Refusal::StageFlags);
-    }
-    if admission::variant_flags_bad(variant) {
-        return Err(Refusal::VariantFlags);
-    }
-    if !admission::entry_good(entry) {
-        return Err(Refusal::EntryName);
-    }
-    if admission::entry_reserved(entry) {
-        return Err(Refusal::ReservedWord);
-    }
+    check_key(key)?;
+    check_variant(variant)?;
+    check_entry(entry)?;
     let k = effective(key);
     emit_checked(k, variant, entry, out)
 }
