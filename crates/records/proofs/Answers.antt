@@ -26,10 +26,9 @@ use Rattle.wire.specs.declared.Record.{Record}
 use Rattle.wire.specs.declared.Record.TheVariants as rec
 use Rattle.wire.specs.declared.Reading.{Reading}
 use Rattle.wire.proofs.Found.{Taken, read_either}
-use Rattle.records.specs.Applying.{Values, all_held, emit_answer, text_answer, values_number, apply_as, apply_read, apply_answer, applied_number}
+use Rattle.records.specs.Applying.{Values, all_held, emit_answer, text_answer, value_answer, values_number, apply_as, apply_read, apply_answer, applied_number}
 use Rattle.records.specs.declared.Held.{Held}
 use Rattle.records.specs.declared.Applied.{Applied}
-use Rattle.records.specs.declared.Applied.TheVariants.{Replaced, Text}
 
 -- The number of what is answered is the one that 01's table gives.
 
@@ -72,7 +71,7 @@ applied_number_lem h b room e =
 
 -- A record that was read, of any other kind than an emit record, replaces a value.
 module _ (x : Reading) (h : Held) (b : List ℕ) (room : ℕ) (e : Ok x ≡ read_record b) (f : x.«record» ≡ rec.Emit → ⊥) where
-  by_kind : (r : Record) → (r ≡ rec.Emit → ⊥) → Ok (Replaced x.length) ≡ apply_as r x.length h room
+  by_kind : (r : Record) → (r ≡ rec.Emit → ⊥) → value_answer x.length ≡ apply_as r x.length h room
   by_kind (rec.Key k) f = refl
   by_kind (rec.Variant v) f = refl
   by_kind (rec.Entry e) f = refl
@@ -80,7 +79,7 @@ module _ (x : Reading) (h : Held) (b : List ℕ) (room : ℕ) (e : Ok x ≡ read
   by_kind (rec.State w) f = refl
   by_kind (rec.WideKey k) f = refl
 
-  pub replaced : Ok (Replaced x.length) ≡ apply_answer h b room
+  pub replaced : value_answer x.length ≡ apply_answer h b room
   replaced = by_kind x.«record» f ∙ ap (λ (a : Result Reading Refusal). apply_read a h room) e
 
   pub replaced_number : 0 ≡ applied_number h b room
@@ -110,8 +109,8 @@ emission_cases P k v e room f g =
 -- P of each case
 pub record ApplyCases (P : Result Applied Refusal → Type 0) (h : Held) (b : List ℕ) (room : ℕ) : Type 0 where
   pub refusal : (c : Refusal) → applied_number h b room ≡ number_of c → P (Err c)
-  pub value : (r : Record) → Taken b r → applied_number h b room ≡ 0 → P (Ok (Replaced (record_length (kind_of r))))
-  pub text : (x : Values) → all_held h ≡ Some x → 1 ≤ length b → applied_number h b room ≡ 0 → P (Ok (Text 1 (emitted_of x.key x.variant x.entry)))
+  pub value : (r : Record) → Taken b r → applied_number h b room ≡ 0 → P (value_answer (record_length (kind_of r)))
+  pub text : (x : Values) → all_held h ≡ Some x → 1 ≤ length b → applied_number h b room ≡ 0 → P (text_answer 1 (Ok (emitted_of x.key x.variant x.entry)))
 
 -- P of each case gives P of what is answered.
 module _ (P : Result Applied Refusal → Type 0) (h : Held) (b : List ℕ) (room : ℕ) (cases : ApplyCases P h b room) where

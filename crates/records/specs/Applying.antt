@@ -1,6 +1,6 @@
 -- The held key, variant and entry, and the record at the front of some bytes applied to them.
 -- 01: "7, and 8 for a text, come from the call above it that reads a record and applies it."
-use Rattle.std.specs.Prelude.{ℕ, cond, List, [], eqb, get_or, take, Option, Some, None, Result, Ok, Err}
+use Rattle.std.specs.Prelude.{ℕ, cond, List, [], eqb, get_or, take, Option, Some, None, is_some, IfSome, Result, Ok, Err, IfOk}
 use Rattle.values.specs.declared.Key.{Key}
 use Rattle.values.specs.declared.Variant.{Variant}
 use Rattle.values.specs.declared.Entry.{Entry}
@@ -19,7 +19,6 @@ use Rattle.wire.specs.declared.Record.TheVariants as rec
 use Rattle.wire.specs.declared.Reading.{Reading}
 use Rattle.records.specs.declared.Held.{Held}
 use Rattle.records.specs.declared.Applied.{Applied}
-use Rattle.records.specs.declared.Applied.TheVariants.{Replaced, Text}
 
 -- What is held.
 
@@ -71,19 +70,22 @@ abbrev pub emit_answer : Option Values → ℕ → Result Emitted Refusal
 emit_answer None room = Err EmitTooEarly
 emit_answer (Some x) room = answer_of x.key x.variant x.entry room
 
--- to an emit record that took n bytes
+-- to an emit record that took n bytes, and to any other
 abbrev pub text_answer : ℕ → Result Emitted Refusal → Result Applied Refusal
-text_answer n (Ok e) = Ok (Text n e)
+text_answer n (Ok e) = Ok (record { length = n; text = Some e })
 text_answer n (Err c) = Err c
+
+abbrev pub value_answer : ℕ → Result Applied Refusal
+value_answer n = Ok (record { length = n; text = None })
 
 -- to a record that took n bytes
 abbrev pub apply_as : Record → ℕ → Held → ℕ → Result Applied Refusal
-apply_as (rec.Key k) n h room = Ok (Replaced n)
-apply_as (rec.Variant v) n h room = Ok (Replaced n)
-apply_as (rec.Entry e) n h room = Ok (Replaced n)
+apply_as (rec.Key k) n h room = value_answer n
+apply_as (rec.Variant v) n h room = value_answer n
+apply_as (rec.Entry e) n h room = value_answer n
 apply_as rec.Emit n h room = text_answer n (emit_answer (all_held h) room)
-apply_as (rec.State w) n h room = Ok (Replaced n)
-apply_as (rec.WideKey k) n h room = Ok (Replaced n)
+apply_as (rec.State w) n h room = value_answer n
+apply_as (rec.WideKey k) n h room = value_answer n
 
 -- to what was read, and to the record at the front of b
 abbrev pub apply_read : Result Reading Refusal → Held → ℕ → Result Applied Refusal
@@ -111,8 +113,7 @@ abbrev pub text_in : Option Values → List ℕ → List ℕ
 text_in x out = in_front (text_held x) out
 
 abbrev pub text_after : Result Applied Refusal → Held → List ℕ → List ℕ
-text_after (Ok (Replaced n)) h out = out
-text_after (Ok (Text n e)) h out = text_in (all_held h) out
+text_after (Ok x) h out = cond (is_some x.text) (text_in (all_held h) out) out
 text_after (Err c) h out = out
 
 -- What is demanded of the names of an accepted emit record, and of the bytes that the buffer then holds, is what emission promises. No text is answered
@@ -122,9 +123,7 @@ HeldDemands None e out = ⊥
 HeldDemands (Some x) e out = Demands x.key (take e.length out) e
 
 abbrev pub AppliedDemands : Held → Result Applied Refusal → List ℕ → Type 0
-AppliedDemands h (Ok (Replaced n)) out = Unit {0}
-AppliedDemands h (Ok (Text n e)) out = HeldDemands (all_held h) e out
-AppliedDemands h (Err c) out = Unit {0}
+AppliedDemands h a out = IfOk a (λ x. IfSome x.text (λ e. HeldDemands (all_held h) e out))
 
 -- The numbers of 01's table.
 

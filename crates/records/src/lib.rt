@@ -13,20 +13,18 @@ use wire::reader::read;
 use wire::{Reading, Record};
 
 // The held values.
-#[derive(Clone, Copy)]
+#[derive(Clone, Copy, Default)]
 pub struct Held {
     pub key: Option<Key>,
     pub variant: Option<Variant>,
     pub entry: Option<Entry>,
 }
 
-// What an accepted record did.
+// An accepted record: how many bytes it took, and what emission reports of the text that it wrote, if it wrote one.
 #[derive(Clone, Copy)]
-pub enum Applied {
-    // A value is held now, or the held key is altered. How many bytes the record took.
-    Replaced(usize),
-    // A text was written. How many bytes its record took, and what emission reports.
-    Text(usize, Emitted),
+pub struct Applied {
+    pub length: usize,
+    pub text: Option<Emitted>,
 }
 
 impl Held {
@@ -34,21 +32,14 @@ impl Held {
     pub fn new() -> Held
         ensures { result ≡ nothing_held }
     {
-        Held {
-            key: None,
-            variant: None,
-            entry: None,
-        }
+        Held::default()
     }
 
     // The key that a state write alters.
     fn key_or_defaults(&self) -> Key
         ensures { result ≡ key_or_defaults self.now }
     {
-        match self.key {
-            Some(key) => key,
-            None => defaults(),
-        }
+        self.key.unwrap_or_else(defaults)
     }
 
     // Holds the record's value, or does its write to the held key.
@@ -89,10 +80,10 @@ impl Held {
     {
         let Reading { record, length } = read(bytes)?;
         if let Record::Emit = record {
-            let emitted = self.emit(text)?;
-            return Ok(Applied::Text(length, emitted));
+            let text = Some(self.emit(text)?);
+            return Ok(Applied { length, text });
         }
         self.hold(record);
-        Ok(Applied::Replaced(length))
+        Ok(Applied { length, text: None })
     }
 }
