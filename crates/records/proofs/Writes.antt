@@ -68,7 +68,8 @@ left_behind (w ∷ r) h = ap (held_behind r) (one_held w h) ∙ go (left_behind 
 pub key_behind : (ws : List StateWrite) (h : Held) → key_or_defaults (held_behind ws h) ≡ writes_applied ws (key_or_defaults h)
 key_behind ws h = ap key_or_defaults (left_behind ws h) ∙ go (any_accepted ws) refl
   where
-    go : (a : Bool) → any_accepted ws ≡ a → key_or_defaults (cond a (holding_key (writes_applied ws (key_or_defaults h)) h) h) ≡ writes_applied ws (key_or_defaults h)
+    go : (a : Bool) → any_accepted ws ≡ a →
+        key_or_defaults (cond a (holding_key (writes_applied ws (key_or_defaults h)) h) h) ≡ writes_applied ws (key_or_defaults h)
     go true e = refl
     go false e = sym (none_done ws (key_or_defaults h) e)
 

@@ -69,7 +69,7 @@ impl Held {
     }
 
     // Reads the record at the front of the bytes and applies it to what is held. A refusal leaves what is held and text as they were.
-    #[tactic(auto, using(crate::proofs::Answers::applied_number_lem, crate::proofs::Answers::replaced, crate::proofs::Answers::replaced_number))]
+    #[tactic(auto, using(crate::proofs::Answers::applied_number_lem, crate::proofs::Answers::replaced_number))]
     pub fn apply(&mut self, bytes: &[u8], text: &mut [u8]) -> Result<Applied, Refusal>
         ensures answer { result ≡ apply_answer self.old bytes.now (length text.old) }
         ensures held { self.new ≡ held_after self.old bytes.now }
@@ -79,11 +79,11 @@ impl Held {
         ensures number { answer_number result ≡ applied_number self.old bytes.now (length text.old) }
     {
         let Reading { record, length } = read(bytes)?;
-        if let Record::Emit = record {
-            let text = Some(self.emit(text)?);
-            return Ok(Applied { length, text });
-        }
+        let text = match record {
+            Record::Emit => Some(self.emit(text)?),
+            _ => None,
+        };
         self.hold(record);
-        Ok(Applied { length, text: None })
+        Ok(Applied { length, text })
     }
 }
