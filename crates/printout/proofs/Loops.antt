@@ -5,16 +5,16 @@ use Prim.Native.Nat.{ℕ, ◌≤◌}
 use native.Mathlib.Omega.{arith}
 use lib.Dec.{eqb}
 use lib.ListN.{length, take, drop, length-append}
-use Rattle.std.specs.Prelude.{Result, Ok, Err}
+use Rattle.std.specs.Prelude.{Option, Some, None, IfSome, Result, Ok, Err}
 use Rattle.std.proofs.lemmas.Bool.{cond_both}
 use Rattle.std.proofs.lemmas.List.{length-take-le}
+use Rattle.values.specs.declared.Emitted.{Emitted}
 use Rattle.values.specs.declared.Refusal.{Refusal}
-use Rattle.records.specs.Applying.{apply_answer, held_after}
+use Rattle.records.specs.Applying.{all_held, text_held, apply_answer, held_after}
 use Rattle.records.specs.declared.Held.{Held}
 use Rattle.records.specs.declared.Applied.{Applied}
-use Rattle.records.specs.declared.Applied.TheVariants.{Replaced, Text}
 use Rattle.printout.specs.Program.{line_after, text_room}
-use Rattle.printout.specs.Steps.{Step, answered_step, ready, step_of}
+use Rattle.printout.specs.Steps.{Step, text_step, answered_step, ready, step_of}
 use Rattle.printout.specs.declared.Session.{Session}
 use Rattle.printout.specs.declared.Printing.{Printing}
 use Rattle.printout.proofs.Taking.{Sized, sized}
@@ -25,8 +25,11 @@ Fits t = (t.answer.line ≡ length t.line) × (t.answer.text ≤ length t.text)
 
 answered_fits : (a : Result Applied Refusal) (h : Held) (s : Session) (out : List ℕ) → Sized s.held a → Fits (answered_step a h s out)
 unfolding answered_step
-answered_fits (Ok (Replaced m)) h s out z = (refl, omega arith)
-answered_fits (Ok (Text m e)) h s out z = (refl, rw z (simp length-append (omega arith)))
+answered_fits (Ok x) h s out z = go x.text z
+  where
+    go : (e : Option Emitted) → IfSome e (λ e. e.length ≡ length (text_held (all_held s.held))) → Fits (text_step e x.length h s out)
+    go None z = (refl, omega arith)
+    go (Some e) z = (refl, rw z (simp length-append (omega arith)))
 answered_fits (Err c) h s out z = (refl, omega arith)
 
 step_fits : (s : Session) (b out : List ℕ) → Fits (step_of s b out)

@@ -9,17 +9,17 @@ use lib.Dec.{eqb, ltb}
 use lib.ListN.{length, drop, get_or, length-append}
 use lib.Seq.{drop_at}
 use Rattle.text.specs.Text.{bytes, flat, decimal, decimal_of}
-use Rattle.std.specs.Prelude.{Result, Ok, Err}
+use Rattle.std.specs.Prelude.{Option, Some, None, Result, Ok, Err}
 use Rattle.std.proofs.lemmas.Bool.{cond_both}
 use Rattle.values.specs.Refusals.{number_of, answer_number}
+use Rattle.values.specs.declared.Emitted.{Emitted}
 use Rattle.values.specs.declared.Refusal.{Refusal}
 use Rattle.values.specs.declared.Refusal.TheVariants as refusal
 use Rattle.records.specs.Applying.{nothing_held, all_held, text_held, apply_answer, held_after}
 use Rattle.records.specs.declared.Held.{Held}
 use Rattle.records.specs.declared.Applied.{Applied}
-use Rattle.records.specs.declared.Applied.TheVariants.{Replaced, Text}
 use Rattle.records.proofs.Room.{EightStages, nothing_held_eight, applied_eight, applied_never_eight}
-use Rattle.printout.specs.Program.{input_room, text_room, emit_line, end_line, refused_line, printed, printed_from, program_output}
+use Rattle.printout.specs.Program.{input_room, text_room, emit_line, end_line, refused_line, text_printed, printed, printed_from, program_output}
 
 -- How what is printed ends: in an `end` line, or in the line of a refusal that is not 8.
 pub data Ends : List ℕ → Type 0 where
@@ -33,8 +33,11 @@ behind x (refused before c p f) = subst Ends (append_assoc x before (refused_lin
 printed_ends : (a : Result Applied Refusal) (p : ℕ) (h : Held) (go_on : ℕ → ℕ → List ℕ) → (answer_number a ≡ 8 → ⊥) → ((m more : ℕ) → Ends (go_on m more)) →
     Ends (printed a p h go_on)
 unfolding printed
-printed_ends (Ok (Replaced m)) p h go_on f g = g m 0
-printed_ends (Ok (Text m e)) p h go_on f g = behind (emit_line e) (behind (text_held (all_held h)) (g m 1))
+printed_ends (Ok x) p h go_on f g = go x.text (g x.length)
+  where
+    go : {rest : ℕ → List ℕ} (e : Option Emitted) → ((more : ℕ) → Ends (rest more)) → Ends (text_printed e h rest)
+    go None k = k 0
+    go (Some e) k = behind (emit_line e) (behind (text_held (all_held h)) (k 1))
 printed_ends (Err c) p h go_on f g = refused [] c p f
 
 from_ends : (turns p n : ℕ) (h : Held) (b : List ℕ) → EightStages h → Ends (printed_from turns p n h b)

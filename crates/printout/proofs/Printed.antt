@@ -10,13 +10,13 @@ use lib.ListN.{length, take, drop, length-drop}
 use lib.Seq.{drop-drop, take_at}
 use Rattle.std.specs.Prelude.{Option, Some, None, IfSome, Result, Ok, Err}
 use Rattle.std.proofs.lemmas.Bool.{cond_both}
+use Rattle.values.specs.declared.Emitted.{Emitted}
 use Rattle.values.specs.declared.Refusal.{Refusal}
 use Rattle.records.specs.Applying.{all_held, text_held, apply_answer, held_after}
 use Rattle.records.specs.declared.Held.{Held}
 use Rattle.records.specs.declared.Applied.{Applied}
-use Rattle.records.specs.declared.Applied.TheVariants.{Replaced, Text}
-use Rattle.printout.specs.Program.{input_room, text_room, end_line, printed, printed_from, program_output}
-use Rattle.printout.specs.Steps.{Step, begun, onwards, last_step, answered_step, record_step, ready, step_of}
+use Rattle.printout.specs.Program.{input_room, text_room, end_line, text_printed, printed, printed_from, program_output}
+use Rattle.printout.specs.Steps.{Step, begun, onwards, last_step, text_step, answered_step, record_step, ready, step_of}
 use Rattle.printout.specs.declared.Session.{Session}
 use Rattle.printout.specs.declared.Printing.{Printing}
 use Rattle.printout.proofs.Taking.{Takes, takes, Sized, sized}
@@ -28,8 +28,11 @@ Onward s b next = IfSome next (λ n. (s.at < n.at) × ((n.at ≤ length b) × (s
 answered_onward : (a : Result Applied Refusal) (h : Held) (s : Session) (b out : List ℕ) → Takes (length (drop s.at b)) a →
     Onward s b (answered_step a h s out).answer.next
 unfolding answered_step
-answered_onward (Ok (Replaced m)) h s b out t = let d = t.0 in let f = simp length-drop at t.1 in (omega arith, (omega arith, λ k. omega arith))
-answered_onward (Ok (Text m e)) h s b out t = let d = t.0 in let f = simp length-drop at t.1 in (omega arith, (omega arith, λ k. omega arith))
+answered_onward (Ok x) h s b out t = go x.text t.0 (simp length-drop at t.1)
+  where
+    go : {m : ℕ} (e : Option Emitted) → 1 ≤ m → m ≤ length b - s.at → Onward s b (text_step e m h s out).answer.next
+    go None k l = (omega arith, (omega arith, λ q. omega arith))
+    go (Some e) k l = (omega arith, (omega arith, λ q. omega arith))
 answered_onward (Err c) h s b out t = tt
 
 onward : (s : Session) (b out : List ℕ) → Onward s b (step_of s b out).answer.next
@@ -61,12 +64,15 @@ abbrev left_for : Option Session → List ℕ → List ℕ
 left_for None b = []
 left_for (Some s) b = left s b
 
+text_same : (e : Option Emitted) (h : Held) (f g : ℕ → List ℕ) → ((more : ℕ) → f more ≡ g more) → text_printed e h f ≡ text_printed e h g
+text_same None h f g k = k 0
+text_same (Some e) h f g k = rw (k 1)
+
 printed_same : (a : Result Applied Refusal) (l p : ℕ) (h : Held) (f g : ℕ → ℕ → List ℕ) → Takes l a → ((m more : ℕ) → 1 ≤ m → f m more ≡ g m more) →
     printed a p h f ≡ printed a p h g
 unfolding printed
-printed_same (Ok (Replaced m)) l p h f g t e = e m 0 t.0
-printed_same (Ok (Text m x)) l p h f g t e = rw (e m 1 t.0)
-printed_same (Err c) l p h f g t e = refl
+printed_same (Ok x) l p h f g t k = text_same x.text h _ _ (λ more. k x.length more t.0)
+printed_same (Err c) l p h f g t k = refl
 
 -- as many turns as bytes are enough
 turns : (t u p n : ℕ) (h : Held) (b : List ℕ) → length b ≤ t → length b ≤ u → printed_from t p n h b ≡ printed_from u p n h b
@@ -116,8 +122,12 @@ prints t rest = t.line ++ (take t.answer.text t.text ++ rest)
 answered_left : (a : Result Applied Refusal) (h : Held) (s : Session) (b out : List ℕ) → Sized s.held a →
     printed a s.at s.held (λ m more. left (onwards s m more h) b) ≡ prints (answered_step a h s out) (left_for (answered_step a h s out).answer.next b)
 unfolding printed answered_step
-answered_left (Ok (Replaced m)) h s b out z = refl
-answered_left (Ok (Text m e)) h s b out z = rw (take_at (text_held (all_held s.held)) _ e.length (sym z))
+answered_left (Ok x) h s b out z = go x.text z
+  where
+    go : (e : Option Emitted) → IfSome e (λ e. e.length ≡ length (text_held (all_held s.held))) →
+        text_printed e s.held (λ more. left (onwards s x.length more h) b) ≡ prints (text_step e x.length h s out) (left_for (text_step e x.length h s out).answer.next b)
+    go None z = refl
+    go (Some e) z = rw (take_at (text_held (all_held s.held)) _ e.length (sym z))
 answered_left (Err c) h s b out z = sym (append-nil _)
 
 left_step : (s : Session) (b out : List ℕ) → s.at ≤ length b → s.texts ≤ s.at → left s b ≡ prints (step_of s b out) (left_for (step_of s b out).answer.next b)

@@ -1,5 +1,5 @@
 -- What the program prints for an input.
-use Rattle.std.specs.Prelude.{ℕ, zero, suc, ◌+◌, cond, List, [], ◌∷◌, ◌++◌, eqb, ltb, length, drop, Result, Ok, Err}
+use Rattle.std.specs.Prelude.{ℕ, zero, suc, ◌+◌, cond, List, [], ◌∷◌, ◌++◌, eqb, ltb, length, drop, Option, Some, None, Result, Ok, Err}
 use Rattle.text.specs.Text.{Text, flat, lit, pick, decimal}
 use Rattle.text.specs.Format.{format, ◌≔◌}
 use Rattle.values.specs.declared.Emitted.{Emitted}
@@ -9,7 +9,6 @@ use Rattle.values.specs.declared.Refusal.TheVariants.{InputTooLong}
 use Rattle.records.specs.Applying.{nothing_held, all_held, text_held, apply_answer, held_after}
 use Rattle.records.specs.declared.Held.{Held}
 use Rattle.records.specs.declared.Applied.{Applied}
-use Rattle.records.specs.declared.Applied.TheVariants.{Replaced, Text as Emits}
 
 -- 01: "Program `ffps` reads standard input into a buffer of 32,768 bytes and has one of 16,384 for text."
 abbrev pub input_room : ℕ
@@ -55,10 +54,14 @@ refused_line c p = flat (refused_text c p)
 abbrev pub line_after : List ℕ → List ℕ → List ℕ
 line_after line out = line ++ drop (length line) out
 
+-- what is printed for the text of an accepted record, if it wrote one, h being held, and behind it what follows so many texts more
+abbrev pub text_printed : Option Emitted → Held → (ℕ → List ℕ) → List ℕ
+text_printed None h go_on = go_on 0
+text_printed (Some e) h go_on = emit_line e ++ (text_held (all_held h) ++ go_on 1)
+
 -- what is printed for the answer to the record at offset p, h being held: go on m bytes further, with so many texts more, or stop
 unfoldable pub printed : Result Applied Refusal → ℕ → Held → (ℕ → ℕ → List ℕ) → List ℕ
-printed (Ok (Replaced m)) p h go_on = go_on m 0
-printed (Ok (Emits m e)) p h go_on = emit_line e ++ (text_held (all_held h) ++ go_on m 1)
+printed (Ok x) p h go_on = text_printed x.text h (go_on x.length)
 printed (Err c) p h go_on = refused_line c p
 
 -- What is printed for the bytes b from offset p on, behind n texts. 01: "the program stops with `end` when its input is used up." Each record

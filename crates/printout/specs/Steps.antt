@@ -1,11 +1,11 @@
 -- A session: what the program prints, a record at a time.
 -- 01: "the program stops with `end` when its input is used up."
 use Rattle.std.specs.Prelude.{ℕ, ◌+◌, Bool, ◌&&◌, cond, List, [], eqb, leb, length, drop, Option, Some, None, Result, Ok, Err}
+use Rattle.values.specs.declared.Emitted.{Emitted}
 use Rattle.values.specs.declared.Refusal.{Refusal}
-use Rattle.records.specs.Applying.{nothing_held, text_after, apply_answer, held_after}
+use Rattle.records.specs.Applying.{nothing_held, all_held, text_in, apply_answer, held_after}
 use Rattle.records.specs.declared.Held.{Held}
 use Rattle.records.specs.declared.Applied.{Applied}
-use Rattle.records.specs.declared.Applied.TheVariants.{Replaced, Text}
 use Rattle.printout.specs.Program.{text_room, emit_line, end_line, refused_line}
 use Rattle.printout.specs.declared.Session.{Session}
 use Rattle.printout.specs.declared.Printing.{Printing}
@@ -30,15 +30,19 @@ pub record Step : Type 0 where
 abbrev pub last_step : List ℕ → List ℕ → Step
 last_step line out = record { answer = stepped (length line) 0 None; line = line; text = out }
 
--- by the answer to the record where the session stands, h being held then
-unfoldable pub answered_step : Result Applied Refusal → Held → Session → List ℕ → Step
-answered_step (Ok (Replaced m)) h s out = record { answer = stepped 0 0 (Some (onwards s m 0 h)); line = []; text = out }
-answered_step (Ok (Text m e)) h s out =
+-- by what is reported of the text of an accepted record of m bytes, if it wrote one, h being held then
+abbrev pub text_step : Option Emitted → ℕ → Held → Session → List ℕ → Step
+text_step None m h s out = record { answer = stepped 0 0 (Some (onwards s m 0 h)); line = []; text = out }
+text_step (Some e) m h s out =
     record {
       answer = stepped (length (emit_line e)) e.length (Some (onwards s m 1 h));
       line = emit_line e;
-      text = text_after (Ok (Text m e)) s.held out;
+      text = text_in (all_held s.held) out;
     }
+
+-- by the answer to the record where the session stands
+unfoldable pub answered_step : Result Applied Refusal → Held → Session → List ℕ → Step
+answered_step (Ok x) h s out = text_step x.text x.length h s out
 answered_step (Err c) h s out = last_step (refused_line c s.at) out
 
 -- by the record where the session stands

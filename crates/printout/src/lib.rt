@@ -17,7 +17,7 @@ pub const INPUT_LENGTH: usize = 32768;
 pub const TEXT_LENGTH: usize = 16384;
 
 // The offset of the next record, the texts so far, and what is held.
-#[derive(Clone, Copy)]
+#[derive(Clone, Copy, Default)]
 pub struct Session {
     pub at: usize,
     pub texts: usize,
@@ -36,11 +36,7 @@ pub struct Printing {
 pub fn begin() -> Session
     ensures { result ≡ begun }
 {
-    Session {
-        at: 0,
-        texts: 0,
-        held: Held::new(),
-    }
+    Session::default()
 }
 
 fn last(line: usize) -> Printing
@@ -67,7 +63,7 @@ fn on(session: Session, took: usize, texts: usize, after: Held) -> Session
 }
 
 // The record where the session stands, applied, and what is printed for it.
-#[tactic(auto, using(crate::proofs::Taking::replaced_fits, crate::proofs::Taking::text_fits), unfolding(crate::specs::Steps::answered_step))]
+#[tactic(auto, using(crate::proofs::Taking::applied_fits), unfolding(crate::specs::Steps::answered_step))]
 fn step_record(
     session: Session,
     input: &[u8],
@@ -83,15 +79,18 @@ fn step_record(
     let answer = held.apply(&input[session.at..], text);
     match answer {
         Err(refusal) => last(put_refused_line(line, refusal, session.at)),
-        Ok(Applied::Replaced(took)) => Printing {
+        Ok(Applied { length, text: None }) => Printing {
             line: 0,
             text: 0,
-            next: Some(on(session, took, 0, held)),
+            next: Some(on(session, length, 0, held)),
         },
-        Ok(Applied::Text(took, emitted)) => Printing {
+        Ok(Applied {
+            length,
+            text: Some(emitted),
+        }) => Printing {
             line: put_emit_line(line, emitted),
             text: emitted.length,
-            next: Some(on(session, took, 1, held)),
+            next: Some(on(session, length, 1, held)),
         },
     }
 }
