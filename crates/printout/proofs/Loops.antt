@@ -1,24 +1,31 @@
 -- What a loop of steps uses of each: the parts that it prints lie in their buffers, and what is left grows less.
-use mathlib.Core.Path.{◌≡◌, refl, sym}
-use mathlib.Core.List.{List}
-use Prim.Native.Nat.{ℕ, ◌≤◌}
+use mathlib.Core.Path.{◌≡◌, refl, sym, ◌∙◌}
+use mathlib.Core.List.{List, [], ◌∷◌, ◌++◌, append_assoc, append-nil}
+use Prim.Native.Nat.{ℕ, ◌-◌, ◌≤◌}
 use native.Mathlib.Omega.{arith}
 use lib.Dec.{eqb}
 use lib.ListN.{length, take, drop, length-append}
-use Rattle.std.specs.Prelude.{Option, Some, None, IfSome, Result, Ok, Err}
+use Rattle.std.specs.Prelude.{Option, Some, None, IfSome, Result, Ok, Err, IsErrAnd, IfErr}
 use Rattle.std.proofs.lemmas.Bool.{cond_both}
-use Rattle.std.proofs.lemmas.List.{length-take-le}
+use Rattle.std.specs.Borrow.{Bor}
+use Rattle.std.specs.Fn.{Mut, Called}
+use Rattle.std.specs.List.{concat}
+use Rattle.std.proofs.lemmas.Fn.{FoldsTo-push, called_at}
+use Rattle.std.proofs.lemmas.List.{length-take-le, take_at}
+use Rattle.std.proofs.lemmas.List.Folds.{concat-append}
+use Rattle.std.proofs.lemmas.Result.{err_from_is_err_and}
 use Rattle.values.specs.declared.Emitted.{Emitted}
 use Rattle.values.specs.declared.Refusal.{Refusal}
 use Rattle.records.specs.Applying.{all_held, text_held, apply_answer, held_after}
 use Rattle.records.specs.declared.Held.{Held}
 use Rattle.records.specs.declared.Applied.{Applied}
-use Rattle.printout.specs.Program.{line_after, text_room}
-use Rattle.printout.specs.Steps.{Step, text_step, answered_step, ready, step_of}
+use Rattle.printout.specs.Giving.{Gave, GaveUntil}
+use Rattle.printout.specs.Program.{line_after, text_room, records_output}
+use Rattle.printout.specs.Steps.{Step, begun, text_step, answered_step, ready, step_of}
 use Rattle.printout.specs.declared.Session.{Session}
 use Rattle.printout.specs.declared.Printing.{Printing}
 use Rattle.printout.proofs.Taking.{Sized, sized}
-use Rattle.printout.proofs.Printed.{less_left}
+use Rattle.printout.proofs.Printed.{less_left, Within, left, left_for, left_step, within_next, onward, turns}
 
 abbrev Fits : Step → Type 0
 Fits t = (t.answer.line ≡ length t.line) × (t.answer.text ≤ length t.text)
@@ -56,5 +63,46 @@ line_taken s b out l {p} {l'} e f = sym (length-take-le p.line l' (line_fits s b
 pub text_taken : (s : Session) (b out : List ℕ) {p : Printing} {out' : List ℕ} →
     p ≡ (step_of s b out).answer → out' ≡ (step_of s b out).text → p.text ≡ length (take p.text out')
 text_taken s b out {p} {out'} e g = sym (length-take-le p.text out' (text_fits s b out e g))
+
+-- what is given of it: its line, its text, and behind them what is left
+pub step_given : {s : Session} {next : Option Session} (b out l : List ℕ) {p : Printing} {l' out' : List ℕ} → next ≡ Some s → Within b next →
+    p ≡ (step_of s b out).answer → l' ≡ line_after (step_of s b out).line l → out' ≡ (step_of s b out).text →
+    left_for next b ≡ take p.line l' ++ (take p.text out' ++ left_for p.next b)
+step_given {s = s} b out l n w e f g =
+    let t = step_of s b out in
+    let v = rw n at w in
+    rw n (left_step s b out v.0 v.1 ∙ rw (e, f, g, take_at t.line (drop (length t.line) l) t.answer.line (sym (step_fits s b out).0)))
+
+-- and the session behind it can belong to the input
+pub step_within : {s : Session} {next : Option Session} (b out : List ℕ) {p : Printing} → next ≡ Some s → Within b next →
+    p ≡ (step_of s b out).answer → Within b p.next
+step_within {s = s} b out n w e = let v = rw n at w in rw e (within_next s b (step_of s b out).answer.next v.1 (onward s b out))
+
+pub begun_within : (b : List ℕ) {s : Session} → s ≡ begun → Within b (Some s)
+begun_within b e = rw e (omega arith, omega arith)
+
+pub begun_left : (b : List ℕ) {s : Session} → s ≡ begun → left s b ≡ records_output b
+unfolding left
+begun_left b e = rw e (turns (length b - 0) (length b) 0 0 _ b (omega arith) (omega arith))
+
+-- Nothing is given at first, and then each part that is accepted.
+module _ {F E : Type 0} (print : Mut F (Bor (List ℕ) × Unit {0}) (Result (Unit {0}) E)) {f : F} {bs : List ℕ} where
+  pub gave_none : {rest : List ℕ} → rest ≡ bs → Gave print f bs f rest
+  gave_none e = record { parts = []; calls = refl; whole = e }
+
+  pub gave_more : {g h : F} {part : Bor (List ℕ)} {rest : List ℕ} → Called print g (part, tt) (Ok tt) h → Gave print f bs g (part.now ++ rest) →
+      Gave print f bs h rest
+  gave_more {g} {h} {part} {rest} c k =
+      record {
+        parts = k.parts ++ (part.now ∷ []);
+        calls = FoldsTo-push _ f k.parts g part.now h k.calls (called_at print c refl);
+        whole = rw (concat-append k.parts (part.now ∷ []), append-nil part.now, append_assoc (concat k.parts) part.now rest) k.whole;
+      }
+
+  pub gave_until : {g h : F} {part : Bor (List ℕ)} {e : E} (r : Result (Unit {0}) E) (more : List ℕ) → Called print g (part, tt) (Err e) h →
+      Gave print f bs g (part.now ++ more) → IsErrAnd r (λ y. y ≡ e) → IfErr r (λ e. GaveUntil print f bs e)
+  gave_until {g} {h} {part} {e} r more c k i =
+      let p = err_from_is_err_and r i in
+      rw (p.1, p.2) (record { last = g; part = part.now; more = more; gave = k; after = h; refused = called_at print c refl })
 
 pub ruleset turn = (line_fits, text_fits, line_taken, text_taken, less_left)

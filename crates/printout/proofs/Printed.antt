@@ -35,7 +35,7 @@ answered_onward (Ok x) h s b out t = go x.text t.0 (simp length-drop at t.1)
     go (Some e) k l = (omega arith, (omega arith, λ q. omega arith))
 answered_onward (Err c) h s b out t = tt
 
-onward : (s : Session) (b out : List ℕ) → Onward s b (step_of s b out).answer.next
+pub onward : (s : Session) (b out : List ℕ) → Onward s b (step_of s b out).answer.next
 unfolding step_of
 onward s b out =
     let On : Step → Type 0 = λ t. Onward s b t.answer.next in
@@ -57,10 +57,10 @@ less_left s b out e = rw e (go (step_of s b out).answer.next (onward s b out))
     go (Some n) o = omega (arith, o.0, o.1.0)
 
 -- what is still to be printed for the input b
-unfoldable left : Session → List ℕ → List ℕ
+unfoldable pub left : Session → List ℕ → List ℕ
 left s b = printed_from (length b - s.at) s.at s.texts s.held (drop s.at b)
 
-abbrev left_for : Option Session → List ℕ → List ℕ
+abbrev pub left_for : Option Session → List ℕ → List ℕ
 left_for None b = []
 left_for (Some s) b = left s b
 
@@ -75,7 +75,7 @@ printed_same (Ok x) l p h f g t k = text_same x.text h _ _ (λ more. k x.length 
 printed_same (Err c) l p h f g t k = refl
 
 -- as many turns as bytes are enough
-turns : (t u p n : ℕ) (h : Held) (b : List ℕ) → length b ≤ t → length b ≤ u → printed_from t p n h b ≡ printed_from u p n h b
+pub turns : (t u p n : ℕ) (h : Held) (b : List ℕ) → length b ≤ t → length b ≤ u → printed_from t p n h b ≡ printed_from u p n h b
 unfolding printed_from
 turns zero zero p n h b k l = refl
 turns zero (suc u) p n h [] k l = refl
@@ -130,7 +130,7 @@ answered_left (Ok x) h s b out z = go x.text z
     go (Some e) z = rw (take_at (text_held (all_held s.held)) _ e.length (sym z))
 answered_left (Err c) h s b out z = sym (append-nil _)
 
-left_step : (s : Session) (b out : List ℕ) → s.at ≤ length b → s.texts ≤ s.at → left s b ≡ prints (step_of s b out) (left_for (step_of s b out).answer.next b)
+pub left_step : (s : Session) (b out : List ℕ) → s.at ≤ length b → s.texts ≤ s.at → left s b ≡ prints (step_of s b out) (left_for (step_of s b out).answer.next b)
 unfolding step_of
 left_step s b out w t = rw (le-leb _ _ w, le-leb _ _ t) (go (eqb s.at (length b)) refl)
   where
@@ -154,10 +154,10 @@ printed_by (suc n) None b out = []
 printed_by (suc n) (Some s) b out = prints (step_of s b out) (printed_by n (step_of s b out).answer.next b (step_of s b out).text)
 
 -- a session that can belong to the input
-abbrev Within : List ℕ → Option Session → Type 0
+abbrev pub Within : List ℕ → Option Session → Type 0
 Within b next = IfSome next (λ s. (s.at ≤ length b) × (s.texts ≤ s.at))
 
-within_next : (s : Session) (b : List ℕ) (next : Option Session) → s.texts ≤ s.at → Onward s b next → Within b next
+pub within_next : (s : Session) (b : List ℕ) (next : Option Session) → s.texts ≤ s.at → Onward s b next → Within b next
 within_next s b None t o = tt
 within_next s b (Some n) t o = (o.1.0, o.1.1 t)
 

@@ -72,6 +72,10 @@ printed_from (suc turns) p n h b =
     cond (eqb (length b) 0) (end_line n)
     (printed (apply_answer h b text_room) p h (λ m more. printed_from turns (p + m) (n + more) (held_after h b) (drop m b)))
 
+-- for the records of an input, from its first byte on
+abbrev pub records_output : List ℕ → List ℕ
+records_output input = printed_from (length input) 0 0 nothing_held input
+
 -- 9: "program input above 32,768 bytes": "the line", "no record read"
 unfoldable pub program_output : List ℕ → List ℕ
-program_output input = cond (ltb input_room (length input)) (refused_line InputTooLong input_room) (printed_from (length input) 0 0 nothing_held input)
+program_output input = cond (ltb input_room (length input)) (refused_line InputTooLong input_room) (records_output input)

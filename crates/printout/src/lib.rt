@@ -3,8 +3,9 @@
 
 pub mod lines;
 
-ghost use Rattle.std.specs.Prelude.{◌+◌, ◌<◌, ◌≤◌, ◌^◌, ◌≡◌, None, length};
-ghost use Rattle.printout.specs.Program.{line_after};
+ghost use Rattle.std.specs.Prelude.{◌+◌, ◌<◌, ◌≤◌, ◌^◌, ◌≡◌, IfErr, None, OnOk, length};
+ghost use Rattle.printout.specs.Giving.{GaveAll, GaveUntil};
+ghost use Rattle.printout.specs.Program.{line_after, records_output};
 ghost use Rattle.printout.specs.Steps.{begun, onwards, ready, record_step, step_of, stepped};
 
 use lines::{LINE_LENGTH, put_emit_line, put_end_line, put_refused_line};
@@ -122,4 +123,26 @@ pub fn step(
         return last(put_end_line(line, session.texts));
     }
     step_record(session, input, line, text)
+}
+
+// Gives what is printed for the input to print, the line and the text of each step, up to the first that it refuses.
+#[tactic(auto, using(crate::proofs::Loops::turn))]
+pub fn print_with<E: Drop, F: FnMut(&[u8]) -> Result<(), E>>(
+    input: &[u8],
+    mut print: F,
+) -> Result<(), E>
+    requires { F.IsAlwaysCallable print }
+    ensures accepted { OnOk result (GaveAll F.FnMut print (records_output input.now)) }
+    ensures refused { IfErr result (λ e. GaveUntil F.FnMut print (records_output input.now) e) }
+{
+    let mut line = [0u8; LINE_LENGTH];
+    let mut text = [0u8; TEXT_LENGTH];
+    let mut next = Some(begin());
+    while let Some(session) = next {
+        let printed = step(session, input, &mut line, &mut text);
+        print(&line[..printed.line])?;
+        print(&text[..printed.text])?;
+        next = printed.next;
+    }
+    Ok(())
 }
