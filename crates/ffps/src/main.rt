@@ -4,7 +4,7 @@
 ghost use Rattle.std.specs.Io.{ReadsAtMost};
 
 use printout::lines::{LINE_LENGTH, put_refused_line};
-use printout::{INPUT_LENGTH, TEXT_LENGTH, begin, step};
+use printout::{INPUT_LENGTH, print_with};
 use std::io;
 use std::io::{ErrorKind, Read, Write};
 use values::Refusal;
@@ -58,21 +58,6 @@ fn read_input<'a, R: Read>(from: &mut R, buffer: &'a mut [u8]) -> Result<&'a [u8
     }
 }
 
-// What is printed for the input. The first write that fails is the last.
-#[tactic(auto, using(printout::proofs::Loops::turn))]
-fn print_output<W: Write>(to: &mut W, input: &[u8]) -> io::Result<()> {
-    let mut line = [0u8; LINE_LENGTH];
-    let mut text = [0u8; TEXT_LENGTH];
-    let mut next = Some(begin());
-    while let Some(session) = next {
-        let printed = step(session, input, &mut line, &mut text);
-        to.write_all(&line[..printed.line])?;
-        to.write_all(&text[..printed.text])?;
-        next = printed.next;
-    }
-    Ok(())
-}
-
 fn print_too_long<W: Write>(to: &mut W) -> io::Result<()> {
     let mut line = [0u8; LINE_LENGTH];
     let n = put_refused_line(&mut line, Refusal::InputTooLong, INPUT_LENGTH);
@@ -82,8 +67,9 @@ fn print_too_long<W: Write>(to: &mut W) -> io::Result<()> {
 fn main(rt: HostRuntime) {
     let mut buffer = [0u8; INPUT_LENGTH];
     let mut to = rt.stdout();
+    // The first write that fails is the last.
     let written = match read_input(&mut rt.stdin(), &mut buffer) {
-        Ok(input) => print_output(&mut to, input),
+        Ok(input) => print_with(input, |part| to.write_all(part)),
         Err(Untaken::TooLong) => print_too_long(&mut to),
         Err(Untaken::Failed) => {
             let _ = eprintln!(rt; "standard input cannot be read");

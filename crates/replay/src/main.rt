@@ -3,8 +3,7 @@
 
 ghost use Rattle.std.specs.Prelude.{◌≤◌, length};
 
-use printout::lines::LINE_LENGTH;
-use printout::{TEXT_LENGTH, begin, step};
+use printout::print_with;
 use std::fs::File;
 use std::io::Read;
 
@@ -14,27 +13,14 @@ const BLOCK_LENGTH: usize = 16384;
 // More cases than the list has. A proved loop has to end, and nothing says that a file does.
 const MOST_CASES: usize = 100000;
 
-// What is left of the expected bytes behind a line and a text, where the two stand in front.
-fn behind<'a>(expected: &'a [u8], line: &[u8], text: &[u8]) -> Option<&'a [u8]> {
-    expected.strip_prefix(line)?.strip_prefix(text)
-}
-
 // Whether what is printed for the input is what is expected.
-#[tactic(auto, using(printout::proofs::Loops::turn))]
 fn same_output(input: &[u8], expected: &[u8]) -> bool {
-    let mut line = [0u8; LINE_LENGTH];
-    let mut text = [0u8; TEXT_LENGTH];
     let mut rest = expected;
-    let mut next = Some(begin());
-    while let Some(session) = next {
-        let printed = step(session, input, &mut line, &mut text);
-        let Some(left) = behind(rest, &line[..printed.line], &text[..printed.text]) else {
-            return false;
-        };
-        rest = left;
-        next = printed.next;
-    }
-    rest.is_empty()
+    let compared: Result<(), ()> = print_with(input, |part| {
+        rest = rest.strip_prefix(part).ok_or(())?;
+        Ok(())
+    });
+    compared.is_ok() && rest.is_empty()
 }
 
 // Why a block of the list cannot be read.
