@@ -73,6 +73,10 @@ body_number kind.Emit b = 0
 body_number kind.State b = state_write_number (state_from_body b)
 body_number kind.WideKey b = key_number true b
 
+-- 1: "body cut short", before the body's causes
+abbrev pub number_as : Kind → List ℕ → ℕ
+number_as k b = cond (ltb (length b) (body_length k)) 1 (body_number k b)
+
 -- the number of a kind that a byte names, or of the refusal of one that names none
 abbrev pub number_by : Result Kind Refusal → (Kind → ℕ) → ℕ
 number_by (Ok k) number = number k
@@ -80,4 +84,4 @@ number_by (Err c) number = number_of c
 
 unfoldable pub record_number : List ℕ → ℕ
 record_number [] = 1
-record_number (n ∷ b) = number_by (kind_from n) (λ k. cond (ltb (length b) (body_length k)) 1 (body_number k b))
+record_number (n ∷ b) = number_by (kind_from n) (λ k. number_as k b)
