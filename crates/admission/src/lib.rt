@@ -5,7 +5,7 @@ mod entry;
 mod words;
 
 ghost use Rattle.std.specs.Prelude.{◌≡◌};
-ghost use Rattle.values.specs.Checks.{checked_entry, checked_key, checked_variant};
+ghost use Rattle.values.specs.Checks.{checked_entry, checked_key, checked_values, checked_variant};
 ghost use Rattle.values.specs.Flags.{stage_flags_bad};
 ghost use Rattle.values.specs.Entries.{continues_name, starts_name};
 
@@ -53,6 +53,15 @@ pub fn check_entry(entry: Entry) -> Result<(), Refusal>
         return Err(Refusal::ReservedWord);
     }
     Ok(())
+}
+
+// The first cause of a key, a variant and an entry.
+pub fn check_values(key: Key, variant: Variant, entry: Entry) -> Result<(), Refusal>
+    ensures { result ≡ checked_values key variant entry }
+{
+    check_key(key)?;
+    check_variant(variant)?;
+    check_entry(entry)
 }
 
 fn starts_name(c: u8) -> bool

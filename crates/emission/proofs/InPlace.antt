@@ -10,8 +10,10 @@ use Rattle.values.specs.declared.Key.{Key}
 use Rattle.values.specs.declared.Variant.{Variant}
 use Rattle.values.specs.declared.Entry.{Entry}
 use Rattle.values.specs.declared.Emitted.{Emitted}
+use Rattle.values.specs.declared.Refusal.{Refusal}
+use Rattle.std.specs.Prelude.{Result, Ok, Err}
 use Rattle.shader.specs.Results.{text_of, emitted_of, answer_of, emission_number}
-use Rattle.shader.specs.Demand.{Demand3, Demands, marked_stages}
+use Rattle.shader.specs.Demand.{Demand3, Demands, Demanded, marked_stages}
 
 -- with this variant and entry r is emitted in the place of k
 pub record InPlace (r k : Key) (v : Variant) (e : Entry) : Type 0 where
@@ -48,13 +50,13 @@ module _ {r k : Key} {v : Variant} {e : Entry} (p : InPlace r k v e) where
   pub place_demand : {text : List ℕ} {m : Emitted} → Demands r text m → Demands k text m
   place_demand d = record { demand3 = place_demand3 d.demand3; no_idle = d.no_idle }
 
-  place_admitted : Admitted k v e → Admitted r v e
+  pub place_demanded : (a : Result Emitted Refusal) (out : List ℕ) → Demanded r a out → Demanded k a out
+  place_demanded (Ok m) out d = place_demand d
+  place_demanded (Err c) out d = tt
+
+  pub place_admitted : Admitted k v e → Admitted r v e
   place_admitted h =
       record { stage_flags = p.same_flags ∙ h.stage_flags; variant_flags = h.variant_flags; entry_name = h.entry_name; entry_word = h.entry_word }
-
-  -- what emission from checked values asks of a key
-  pub takes_place : {key : Key} → key ≡ r → Admitted k v e → (effective_stages key ≡ key.stages) × Admitted key v e
-  takes_place f h = rw f (p.as_it_is, place_admitted h)
 
   pub place_answer : (room : ℕ) → answer_of r v e room ≡ answer_of k v e room
   unfolding answer_of

@@ -14,7 +14,7 @@ use Rattle.states.specs.Writes.{accepted, any_widens, checked_write, last_writte
 use Rattle.states.proofs.Accepted.{check_cases}
 use Rattle.states.proofs.LastWritten.{kind_written, last_written_lem, from_defaults}
 use Rattle.states.proofs.Stages.{neither}
-use Rattle.wire.specs.Steps.{◌>>=◌}
+use Rattle.values.specs.Steps.{◌>>=◌}
 use Rattle.wire.specs.Bodies.{body_bytes, record_bytes}
 use Rattle.wire.specs.Reading.{took, read_body, read_as, read_record}
 use Rattle.wire.specs.declared.Record.TheVariants as rec

@@ -3,6 +3,7 @@ use Rattle.std.specs.Prelude.{cond, Result, Ok, Err}
 use Rattle.values.specs.Flags.{stage_flags_bad, variant_flags_bad}
 use Rattle.values.specs.Entries.{entry_good}
 use Rattle.values.specs.Words.{entry_reserved}
+use Rattle.values.specs.Steps.{◌>>=◌}
 use Rattle.values.specs.declared.Key.{Key}
 use Rattle.values.specs.declared.Variant.{Variant}
 use Rattle.values.specs.declared.Entry.{Entry}
@@ -20,3 +21,10 @@ checked_variant v = cond (variant_flags_bad v) (Err VariantFlags) (Ok tt)
 -- 6, what is wrong with an entry, before 13, a word that it may not be
 abbrev pub checked_entry : Entry → Result (Unit {0}) Refusal
 checked_entry e = cond (entry_good e) (cond (entry_reserved e) (Err ReservedWord) (Ok tt)) (Err EntryName)
+
+-- the three in 01's order
+abbrev pub checked_values : Key → Variant → Entry → Result (Unit {0}) Refusal
+checked_values k v e = do
+  _ ← checked_key k
+  _ ← checked_variant v
+  checked_entry e

@@ -4,5 +4,6 @@ pub mod Entries
 pub mod Admitted
 pub mod Listed
 pub mod Words
+pub mod Steps
 pub mod Checks
 pub mod Kinds

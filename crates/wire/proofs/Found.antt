@@ -17,7 +17,7 @@ use Rattle.values.specs.declared.Entry.{Entry}
 use Rattle.values.specs.declared.StateWrite.{StateWrite}
 use Rattle.states.specs.States.{wide_stages}
 use Rattle.states.proofs.Accepted.{check_cases}
-use Rattle.wire.specs.Steps.{◌>>=◌}
+use Rattle.values.specs.Steps.{◌>>=◌}
 use Rattle.wire.specs.Bodies.{kind_byte, kind_of, body_length, record_length, record_bytes, record_from_body, state_from_body}
 use Rattle.wire.specs.Values.{key_as, key_record, own}
 use Rattle.wire.specs.Reading.{kind_from, number_by, took, specular_in, read_body, read_as, read_record, body_number, record_number}

@@ -16,7 +16,7 @@ use Rattle.values.specs.declared.Entry.{Entry}
 use Rattle.values.specs.declared.StateWrite.{StateWrite}
 use Rattle.wire.specs.Bodies.{kind_byte, kind_of, body_length, record_length, body_bytes, record_bytes}
 use Rattle.wire.specs.Values.{key_as, key_record, own}
-use Rattle.wire.specs.Steps.{◌>>=◌}
+use Rattle.values.specs.Steps.{◌>>=◌}
 use Rattle.wire.specs.Causes.{checked_record}
 use Rattle.wire.specs.Reading.{kind_from, took, specular_in, read_body, read_as, read_record}
 use Rattle.wire.specs.Writing.{write_answer, after_writing}

@@ -8,7 +8,7 @@ use Rattle.std.specs.Prelude.{Result, Ok, Err}
 use Rattle.values.specs.Refusals.{number_of, answer_number}
 use Rattle.values.specs.declared.Refusal.{Refusal}
 use Rattle.values.specs.declared.Refusal.TheVariants.{NoRoom}
-use Rattle.wire.specs.Steps.{◌>>=◌}
+use Rattle.values.specs.Steps.{◌>>=◌}
 use Rattle.wire.specs.Bodies.{kind_of, record_length}
 use Rattle.wire.specs.Writing.{write_into, write_answer, written_number}
 use Rattle.wire.specs.declared.Record.{Record}

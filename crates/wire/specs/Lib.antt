@@ -1,6 +1,5 @@
 pub mod Bodies
 pub mod Values
-pub mod Steps
 pub mod Causes
 pub mod Reading
 pub mod Writing

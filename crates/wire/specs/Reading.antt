@@ -8,7 +8,7 @@ use Rattle.values.specs.Words.{entry_reserved}
 use Rattle.values.specs.declared.Refusal.{Refusal}
 use Rattle.values.specs.declared.Refusal.TheVariants.{CutShort, UnknownKind, SpecularAdd}
 use Rattle.states.specs.Writes.{state_write_number}
-use Rattle.wire.specs.Steps.{◌>>=◌}
+use Rattle.values.specs.Steps.{◌>>=◌}
 use Rattle.wire.specs.Bodies.{kind_byte, kind_of, body_length, record_length, specular_byte, key_from_body, variant_from_body, entry_from_body}
 use Rattle.wire.specs.Bodies.{state_from_body, record_from_body}
 use Rattle.wire.specs.Causes.{checked_record}

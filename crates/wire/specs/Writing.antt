@@ -6,7 +6,7 @@ use Rattle.values.specs.Words.{entry_reserved}
 use Rattle.values.specs.declared.Refusal.{Refusal}
 use Rattle.values.specs.declared.Refusal.TheVariants.{NoRoom}
 use Rattle.states.specs.Writes.{accepted, state_write_number}
-use Rattle.wire.specs.Steps.{◌>>=◌}
+use Rattle.values.specs.Steps.{◌>>=◌}
 use Rattle.wire.specs.Bodies.{kind_of, record_length}
 use Rattle.wire.specs.Causes.{checked_record}
 use Rattle.wire.specs.declared.Record.{Record}

@@ -7,10 +7,8 @@ use native.Mathlib.Omega.{arith}
 use borrow.Author.Tests.{eqb-true, ne_eqb}
 use lib.Dec.{eqb}
 use lib.ListN.{length, take, drop, get_or}
-use lib.Seq.{sets, length-take-le}
+use lib.Seq.{sets}
 use Rattle.std.specs.Prelude.{Option, Some, None, is_some}
-use Rattle.text.specs.Text.{raw}
-use Rattle.text.specs.Buffer.{Wrote}
 use Rattle.values.specs.Admitted.{Admitted}
 use Rattle.values.specs.declared.Key.{Key}
 use Rattle.values.specs.declared.Variant.{Variant}
@@ -26,7 +24,7 @@ use Rattle.yuzuknoll.specs.Lent.{after, record_numbers}
 use Rattle.yuzuknoll.specs.Records.{kind_in}
 use Rattle.yuzuknoll.specs.Applying.{place_of, room_of, held_length, held_byte, held_body, is_record, held_wide, held_if, held_of}
 use Rattle.yuzuknoll.specs.Applying.{on_emit, part_with, held_with, text_with, no_result, result_with, applied_numbers, HeldReported}
-use Rattle.yuzuknoll.proofs.Lent.{left, first_refused, first_passed}
+use Rattle.yuzuknoll.proofs.Lent.{left, first_passed}
 use Rattle.yuzuknoll.proofs.Checking.{taken}
 use Rattle.yuzuknoll.proofs.Emitting.{Emits, admitted, body_free}
 

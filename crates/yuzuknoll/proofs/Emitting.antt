@@ -7,7 +7,7 @@ use native.Mathlib.Omega.{arith}
 use lib.Dec.{eqb, ltb}
 use lib.ListN.{length}
 use Rattle.std.specs.Prelude.{Result, Ok, Err}
-use Rattle.values.specs.Refusals.{number_of, answer_number}
+use Rattle.values.specs.Refusals.{answer_number}
 use Rattle.values.specs.Flags.{stage_flags_bad, variant_flags_bad}
 use Rattle.values.specs.Entries.{entry_good}
 use Rattle.values.specs.Words.{entry_reserved}
@@ -26,7 +26,6 @@ use Rattle.wire.specs.Reading.{body_number}
 use Rattle.wire.specs.declared.Kind.TheVariants as kind
 use Rattle.yuzuknoll.specs.Lent.{after, first_of, at_front, result_numbers, ReportedDemands}
 use Rattle.yuzuknoll.specs.Emitting.{bodies_number, bodies_text, bodies_result}
-use Rattle.inspection.proofs.Numbers.{not_zero}
 use Rattle.yuzuknoll.proofs.Lent.{left, first_refused, first_passed, first_zero}
 
 -- yes as 1 and no as 0 tells which it was
@@ -72,14 +71,11 @@ module _ (k : Key) (v : Variant) (e : Entry) (out res : List ℕ) where
 
 -- A key in the place of another is emitted as that one is.
 module _ {r k : Key} {v : Variant} {e : Entry} (p : InPlace r k v e) where
-  place_emits : (out res : List ℕ) {n : ℕ} {out' res' : List ℕ} → Emits r v e out res n out' res' → Emits k v e out res n out' res'
+  pub place_emits : (out res : List ℕ) {n : ℕ} {out' res' : List ℕ} → Emits r v e out res n out' res' → Emits k v e out res n out' res'
   place_emits out res {n} s =
       let texts = ap (λ (t : List ℕ). after n (at_front t out) out) p.same_text in
       let results = ap (λ (m : Emitted). after n (result_numbers m) res) p.same_emitted in
       (s.0 ∙ place_number p (length out), (s.1.0 ∙ texts, (s.1.1.0 ∙ results, λ z. place_demand p (s.1.1.1 z))))
-
-  pub placed_emits : (out res : List ℕ) {key : Key} {n : ℕ} {out' res' : List ℕ} → key ≡ r → Emits key v e out res n out' res' → Emits k v e out res n out' res'
-  placed_emits out res f s = place_emits out res (rw f at s)
 
 -- What the numbers of bodies tell of their values.
 

@@ -1,6 +1,6 @@
 -- A key of kind 1 read as its bytes lie, without an op of three operands, is emitted in the place of the key that they stand for; and one of kind 6 as it is.
 use Prim.Native.Nat.{ℕ, zero, suc, ◌<◌}
-use mathlib.Core.Bool.{Bool, true, false, ◌||◌, true≢false}
+use mathlib.Core.Bool.{Bool, true, false, not, ◌&&◌, ◌||◌, cond, true≢false}
 use mathlib.Core.Path.{◌≡◌, refl, sym, ap, ◌∙◌}
 use mathlib.Core.List.{List, [], ◌∷◌}
 use native.Mathlib.Omega.{arith}
@@ -12,13 +12,11 @@ use Rattle.values.specs.Kinds.{narrow}
 use Rattle.values.specs.declared.Key.{Key}
 use Rattle.values.specs.declared.Variant.{Variant}
 use Rattle.values.specs.declared.Entry.{Entry}
-use Rattle.cascade.specs.Effective.{effective_stages, any_of_three}
+use Rattle.cascade.specs.Effective.{effective_stages, effective, any_of_three}
 use Rattle.cascade.proofs.Narrowing.{effective_alike}
 use Rattle.shader.specs.Results.{text_of, emitted_of}
 use Rattle.shader.proofs.Narrow.{kind_one_text, kind_one_emitted}
-use Rattle.emission.proofs.InPlace.{InPlace, takes_place}
-use Rattle.values.specs.Admitted.{Admitted}
-use Rattle.yuzuknoll.proofs.Emitting.{Emits, placed_emits}
+use Rattle.emission.proofs.InPlace.{InPlace, effective_in_place}
 use Rattle.wire.specs.Bodies.{stages_from_bytes, key_from_body}
 use Rattle.yuzuknoll.specs.Emitting.{key_read}
 use Rattle.inspection.specs.Raw.{raw_stages, raw_key, any_byte_of_three}
@@ -91,16 +89,16 @@ module _ (b : List ℕ) (v : Variant) (e : Entry) where
   unfolding effective_stages key_from_body
   wide_in_place = record { as_it_is = refl; same_flags = refl; same_text = refl; same_emitted = refl }
 
-  -- so is the key that was read first, where it has no op of three operands
-  pub read_in_place : (wide : Bool) → (wide ≡ false → any_byte_of_three (take 56 b) ≡ false) → InPlace (key_read wide b) (key_from_body wide b) v e
-  read_in_place true h = wide_in_place
-  read_in_place false h = raw_in_place (h refl)
+-- The key of a body as it is emitted: as it was read first where no op has three operands, else as it takes effect.
+module _ (wide : Bool) (b : List ℕ) where
+  abbrev pub emitted_key : Key
+  emitted_key = cond (not wide && any_byte_of_three (take 56 b)) (effective (key_from_body false b)) (key_read wide b)
 
--- The key that was read of a body is emitted in the place of the body's.
-module _ {wide : Bool} {key : Key} (b : List ℕ) (q : key ≡ key_read wide b) (h : wide ≡ false → any_byte_of_three (take 56 b) ≡ false) (v : Variant) (e : Entry)
-  where
-    pub read_takes_place : Admitted (key_from_body wide b) v e → (effective_stages key ≡ key.stages) × Admitted key v e
-    read_takes_place = takes_place (read_in_place b v e wide h) q
-
-    pub read_emits : (out res : List ℕ) {n : ℕ} {out' res' : List ℕ} → Emits key v e out res n out' res' → Emits (key_from_body wide b) v e out res n out' res'
-    read_emits out res = placed_emits (read_in_place b v e wide h) out res q
+  pub emitted_in_place : (v : Variant) (e : Entry) → InPlace emitted_key (key_from_body wide b) v e
+  emitted_in_place v e = go wide _ refl
+    where
+      go : (w three : Bool) → any_byte_of_three (take 56 b) ≡ three
+          → InPlace (cond (not w && three) (effective (key_from_body false b)) (key_read w b)) (key_from_body w b) v e
+      go true three h = wide_in_place b v e
+      go false true h = effective_in_place (key_from_body false b) v e
+      go false false h = raw_in_place b v e h

@@ -21,7 +21,7 @@ use Rattle.states.proofs.LastWritten.{all_kept, kind_written}
 use Rattle.states.proofs.SameLast.{SameLast, same_key}
 use Rattle.states.proofs.Rearranged.{by_last}
 use Rattle.wire.specs.Bodies.{body_bytes, kind_of, key_kind, record_bytes, record_length}
-use Rattle.wire.specs.Steps.{◌>>=◌}
+use Rattle.values.specs.Steps.{◌>>=◌}
 use Rattle.wire.specs.Values.{key_record}
 use Rattle.wire.specs.Reading.{took, body_number, record_number}
 use Rattle.wire.specs.declared.Reading.{Reading}

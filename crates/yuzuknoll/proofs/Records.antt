@@ -22,7 +22,7 @@ use Rattle.wire.proofs.Bodies.{Bytes, Free}
 use Rattle.yuzuknoll.specs.Lent.{after, at_front, record_numbers}
 use Rattle.yuzuknoll.specs.Records.{found, kind_in, bytes_in, copy_number}
 use Rattle.inspection.proofs.Numbers.{not_zero}
-use Rattle.yuzuknoll.proofs.Lent.{left, first_refused, first_passed}
+use Rattle.yuzuknoll.proofs.Lent.{left, first_passed}
 use Rattle.yuzuknoll.proofs.Checking.{taken}
 
 -- a record without a cause of its own is refused for want of room alone

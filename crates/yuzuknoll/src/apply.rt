@@ -11,11 +11,12 @@ ghost use Rattle.yuzuknoll.specs.Applying.{HeldReported, applied_numbers, held_l
 ghost use Rattle.yuzuknoll.specs.Applying.{result_with, text_with};
 
 use crate::alter::alter_held;
-use crate::emit::{RESULT_LENGTH, emit_rewritten, emit_values, read_key};
+use crate::emit::{RESULT_LENGTH, emit_values, read_key, rewrite_key};
 use crate::parts::{
     ENTRY_BODY, ENTRY_PLACE, HELD_LENGTH, KEY_BODY, KEY_PLACE, VARIANT_BODY, VARIANT_PLACE,
     holds_all, place_of,
 };
+use emission::emittable::Emittable;
 use inspection::causes::record_kind;
 use inspection::keys::any_byte_of_three;
 use text::put;
@@ -38,20 +39,23 @@ fn emit_held(
     ensures names { answer_number result ≡ 0 → HeldReported (held_of held.now) text.new res.new }
 {
     let body = &held[KEY_BODY..VARIANT_PLACE];
-    let key = read_key::<false>(body);
+    let mut key = read_key::<false>(body);
     if !holds_all(held) {
         return Err(Refusal::EmitTooEarly);
     }
     let variant = variant_from_body(&held[VARIANT_BODY..ENTRY_PLACE]);
     let entry = entry_from_body(&held[ENTRY_BODY..HELD_LENGTH]);
     if held[KEY_PLACE] == KIND_WIDE_KEY {
-        let wide_key = read_key::<true>(body);
-        return emit_values(wide_key, variant, entry, text, res);
+        key = read_key::<true>(body);
+    } else if any_byte_of_three(body) {
+        rewrite_key(&mut key, body);
     }
-    if any_byte_of_three(body) {
-        return emit_rewritten(body, variant, entry, text, res);
-    }
-    emit_values(key, variant, entry, text, res)
+    let values = Emittable {
+        key: &key,
+        variant: &variant,
+        entry: &entry,
+    };
+    emit_values(&values, text, res)
 }
 
 // A value's record, over its part of the held bytes.

@@ -1,8 +1,7 @@
 //! Emission from the bodies of a key, a variant and an entry. The C interface lends the text and its result apart.
 ghost use Rattle.std.specs.Prelude.{◌≤◌, ◌≡◌, false, true, length};
-ghost use Rattle.values.specs.Admitted.{Admitted};
 ghost use Rattle.values.specs.Refusals.{answer_number};
-ghost use Rattle.cascade.specs.Effective.{effective_stages};
+ghost use Rattle.cascade.specs.Effective.{effective};
 ghost use Rattle.shader.specs.Results.{emission_number, emitted_of, text_of};
 ghost use Rattle.wire.specs.Bodies.{body_length, key_from_body, key_kind};
 ghost use Rattle.wire.specs.Reading.{body_number};
@@ -10,7 +9,7 @@ ghost use Rattle.yuzuknoll.specs.Lent.{ReportedDemands, after, at_front, first_o
 ghost use Rattle.yuzuknoll.specs.Emitting.{bodies_number, bodies_result, bodies_text, key_read};
 
 use cascade::effective::effective;
-use emission::emit_checked;
+use emission::emittable::Emittable;
 use inspection::causes::{entry_cause, key_cause, variant_cause};
 use inspection::keys::{any_byte_of_three, raw_key};
 use values::{Emitted, Entry, Key, Refusal, Variant, number};
@@ -44,42 +43,22 @@ fn report(emitted: Emitted, res: &mut [u64; RESULT_LENGTH])
     ];
 }
 
-// From values that are free of the causes 3, 5, 6 and 13, of a key whose stages take effect as they are.
+// Writes the text of values to the front of text, and what emission reports of it to res.
 pub(crate) fn emit_values(
-    key: Key,
-    variant: Variant,
-    entry: Entry,
+    values: &Emittable,
     text: &mut [u8],
     res: &mut [u64; RESULT_LENGTH],
 ) -> Result<(), Refusal>
-    requires { (effective_stages key ≡ key.stages) × Admitted key variant entry }
-    ensures number { answer_number result ≡ emission_number key variant entry (length text.old) }
-    ensures text { text.new ≡ after (answer_number result) (at_front (text_of key variant entry) text.old) text.old }
-    ensures res { res.new ≡ after (answer_number result) (result_numbers (emitted_of key variant entry)) res.old }
-    ensures names { answer_number result ≡ 0 → ReportedDemands key text.new res.new }
+    ensures number { answer_number result ≡ emission_number values.now.key.now values.now.variant.now values.now.entry.now (length text.old) }
+    ensures text { text.new
+        ≡ after (answer_number result) (at_front (text_of values.now.key.now values.now.variant.now values.now.entry.now) text.old) text.old }
+    ensures res { res.new
+        ≡ after (answer_number result) (result_numbers (emitted_of values.now.key.now values.now.variant.now values.now.entry.now)) res.old }
+    ensures names { answer_number result ≡ 0 → ReportedDemands values.now.key.now text.new res.new }
 {
-    let emitted = emit_checked(key, variant, entry, text)?;
+    let emitted = values.emit(text)?;
     report(emitted, res);
     Ok(())
-}
-
-// From the body of a key of kind 1 that may have ops of three operands. It is a function of its own because few keys have, and what the others need is
-// quicker without it.
-pub(crate) fn emit_rewritten(
-    body: &[u8],
-    variant: Variant,
-    entry: Entry,
-    text: &mut [u8],
-    res: &mut [u64; RESULT_LENGTH],
-) -> Result<(), Refusal>
-    requires { (body_length Kind.Key ≤ length body.now) × Admitted (key_from_body false body.now) variant entry }
-    ensures number { answer_number result ≡ emission_number (key_from_body false body.now) variant entry (length text.old) }
-    ensures text { text.new ≡ after (answer_number result) (at_front (text_of (key_from_body false body.now) variant entry) text.old) text.old }
-    ensures res { res.new ≡ after (answer_number result) (result_numbers (emitted_of (key_from_body false body.now) variant entry)) res.old }
-    ensures names { answer_number result ≡ 0 → ReportedDemands (key_from_body false body.now) text.new res.new }
-{
-    let key = effective(key_from_body::<false>(body));
-    emit_values(key, variant, entry, text, res)
 }
 
 // The key of a body as it is emitted where no op has three operands.
@@ -92,6 +71,15 @@ pub(crate) fn read_key<const WIDE: bool>(body: &[u8]) -> Key
     } else {
         raw_key(body)
     }
+}
+
+// The key of a body of kind 1 as it is emitted where ops may have three operands. It is a function of its own because few keys have, and what the others
+// need is quicker without it.
+pub(crate) fn rewrite_key(key: &mut Key, body: &[u8])
+    requires { body_length Kind.Key ≤ length body.now }
+    ensures { key.new ≡ effective (key_from_body false body.now) }
+{
+    *key = effective(key_from_body::<false>(body));
 }
 
 // The first cause of three bodies: the key's, then the variant's and the entry's.
@@ -124,14 +112,19 @@ fn emit_bodies<const WIDE: bool>(
     ensures res { res.new ≡ after (answer_number result) (bodies_result WIDE key.now variant.now entry.now) res.old }
     ensures names { answer_number result ≡ 0 → ReportedDemands (key_from_body WIDE key.now) text.new res.new }
 {
-    let k = read_key::<WIDE>(key);
+    let mut k = read_key::<WIDE>(key);
     bodies_cause::<WIDE>(key, variant, entry)?;
     let v = variant_from_body(variant);
     let e = entry_from_body(entry);
     if !WIDE && any_byte_of_three(key) {
-        return emit_rewritten(key, v, e, text, res);
+        rewrite_key(&mut k, key);
     }
-    emit_values(k, v, e, text, res)
+    let values = Emittable {
+        key: &k,
+        variant: &v,
+        entry: &e,
+    };
+    emit_values(&values, text, res)
 }
 
 // Writes the text of a key, a variant and an entry to the front of text, and its length, mask, rows, lookups and warnings to result.

@@ -1,56 +1,54 @@
 -- Too early; or what the held bodies stand for is emitted, which is free of causes where all are held. The kind byte tells which kind of key is held.
-use mathlib.Core.Bool.{true≢false}
-use Rattle.std.proofs.Common.{rules, sym, ◌∙◌}
-use Rattle.yuzuknoll.proofs.Raw.{read_takes_place, read_emits}
+use Rattle.std.proofs.Common.{◌≡◌, refl, sym, ◌∙◌}
+use Rattle.wire.specs.declared.Kind.TheVariants as kind
+use Rattle.emission.proofs.InPlace.{place_admitted}
+use Rattle.yuzuknoll.specs.Applying.{held_wide, held_body}
+use Rattle.yuzuknoll.proofs.Emitting.{place_emits}
+use Rattle.yuzuknoll.proofs.Raw.{emitted_key, emitted_in_place}
 use Rattle.yuzuknoll.proofs.Applying.{wide_key, narrow_key, held_admitted, too_early, held_emitted}
 use Rattle.yuzuknoll.proofs.apply.emit_held.Goals as goal
+use Rattle.yuzuknoll.proofs.apply.emit_held.Goals.{then-held-eq-KIND_WIDE_KEY, else-held-eq-KIND_WIDE_KEY+then-any_byte_of_three}
+use Rattle.yuzuknoll.proofs.apply.emit_held.Goals.{else-held-eq-KIND_WIDE_KEY+else-any_byte_of_three}
 
 pub returns-then-not-holds_all : goal.returns-then-not-holds_all
 returns-then-not-holds_all c =
     let p = too_early c.args.held.now c.args.text.now c.args.res.now (sym c.holds_all.ensures ∙ c.if-not-holds_all.true) in
     record { number = p.0; text = p.1.0; res = p.1.1.0; names = p.1.1.1 }
 
-pub emit_values-requires : goal.emit_values-requires
-emit_values-requires c =
-    read_takes_place _ c.read_key-wide_key.ensures (λ e. absurd (true≢false e)) _ _
-    (held_admitted c.args.held.now (wide_key c.args.held.now c.if-held-eq-KIND_WIDE_KEY.true) c.variant_from_body-variant.ensures
-    c.entry_from_body-entry.ensures (sym c.holds_all.ensures ∙ c.if-not-holds_all.false))
-
-pub returns-then-held-eq-KIND_WIDE_KEY : goal.returns-then-held-eq-KIND_WIDE_KEY
-returns-then-held-eq-KIND_WIDE_KEY c =
-    let s = c.emit_values.ensures in
-    let placed = read_emits _ c.read_key-wide_key.ensures (λ e. absurd (true≢false e)) _ _ c.args.text.now c.args.res.now
-    (s.number, (s.text, (s.res, s.names))) in
-    let p = held_emitted c.args.held.now c.args.text.now c.args.res.now (sym c.holds_all.ensures ∙ c.if-not-holds_all.false)
-    (wide_key c.args.held.now c.if-held-eq-KIND_WIDE_KEY.true) c.variant_from_body-variant.ensures c.entry_from_body-entry.ensures placed in
-    record { number = p.0; text = p.1.0; res = p.1.1.0; names = p.1.1.1 }
-
-pub emit_rewritten-requires : goal.emit_rewritten-requires
-emit_rewritten-requires c = (
-  search rules,
-  held_admitted c.args.held.now (narrow_key c.args.held.now c.if-held-eq-KIND_WIDE_KEY.false) c.variant_from_body-variant.ensures
-      c.entry_from_body-entry.ensures (sym c.holds_all.ensures ∙ c.if-not-holds_all.false),
-)
-
-pub returns-then-any_byte_of_three : goal.returns-then-any_byte_of_three
-returns-then-any_byte_of_three c =
-    let s = c.emit_rewritten.ensures in
-    let p = held_emitted c.args.held.now c.args.text.now c.args.res.now (sym c.holds_all.ensures ∙ c.if-not-holds_all.false)
-    (narrow_key c.args.held.now c.if-held-eq-KIND_WIDE_KEY.false) c.variant_from_body-variant.ensures c.entry_from_body-entry.ensures
-    (s.number, (s.text, (s.res, s.names))) in
-    record { number = p.0; text = p.1.0; res = p.1.1.0; names = p.1.1.1 }
-
-pub emit_values-requires-2 : goal.emit_values-requires-2
-emit_values-requires-2 c =
-    read_takes_place _ c.read_key-key.ensures (λ _. sym c.any_byte_of_three.ensures ∙ c.if-any_byte_of_three.false) _ _
-    (held_admitted c.args.held.now (narrow_key c.args.held.now c.if-held-eq-KIND_WIDE_KEY.false) c.variant_from_body-variant.ensures
-    c.entry_from_body-entry.ensures (sym c.holds_all.ensures ∙ c.if-not-holds_all.false))
+pub invariant_of-values : goal.invariant_of-values
+invariant_of-values c =
+    let held = c.args.held.now in
+    let q : c.if-held-eq-KIND_WIDE_KEY.key ≡ emitted_key (held_wide held) (held_body kind.Key held) =
+    elim c.if-held-eq-KIND_WIDE_KEY.branch [
+      | then-held-eq-KIND_WIDE_KEY w ↦ rw (wide_key held w.if-held-eq-KIND_WIDE_KEY.true) (w.key-is ∙ w.read_key-key-then-held-eq-KIND_WIDE_KEY.ensures)
+      | else-held-eq-KIND_WIDE_KEY+then-any_byte_of_three w ↦
+          rw (narrow_key held w.if-held-eq-KIND_WIDE_KEY.false, sym w.any_byte_of_three.ensures ∙ w.if-any_byte_of_three.true)
+          (w.key-is ∙ w.rewrite_key.ensures)
+      | else-held-eq-KIND_WIDE_KEY+else-any_byte_of_three w ↦
+          rw (narrow_key held w.if-held-eq-KIND_WIDE_KEY.false, sym w.any_byte_of_three.ensures ∙ w.if-any_byte_of_three.false)
+          (w.key-is ∙ c.read_key-key.ensures)
+    ] in
+    let place = emitted_in_place (held_wide held) (held_body kind.Key held) c.variant_from_body-variant.result c.entry_from_body-entry.result in
+    let good = sym c.holds_all.ensures ∙ c.if-not-holds_all.false in
+    let free = held_admitted held refl c.variant_from_body-variant.ensures c.entry_from_body-entry.ensures good in
+    rw q (record { effective = place.as_it_is; free = place_admitted place free })
 
 pub returns : goal.returns
 returns c =
-    let s = c.emit_values-2.ensures in
-    let placed = read_emits _ c.read_key-key.ensures (λ _. sym c.any_byte_of_three.ensures ∙ c.if-any_byte_of_three.false) _ _ c.args.text.now c.args.res.now
-    (s.number, (s.text, (s.res, s.names))) in
-    let p = held_emitted c.args.held.now c.args.text.now c.args.res.now (sym c.holds_all.ensures ∙ c.if-not-holds_all.false)
-    (narrow_key c.args.held.now c.if-held-eq-KIND_WIDE_KEY.false) c.variant_from_body-variant.ensures c.entry_from_body-entry.ensures placed in
+    let held = c.args.held.now in
+    let q : c.if-held-eq-KIND_WIDE_KEY.key ≡ emitted_key (held_wide held) (held_body kind.Key held) =
+    elim c.if-held-eq-KIND_WIDE_KEY.branch [
+      | then-held-eq-KIND_WIDE_KEY w ↦ rw (wide_key held w.if-held-eq-KIND_WIDE_KEY.true) (w.key-is ∙ w.read_key-key-then-held-eq-KIND_WIDE_KEY.ensures)
+      | else-held-eq-KIND_WIDE_KEY+then-any_byte_of_three w ↦
+          rw (narrow_key held w.if-held-eq-KIND_WIDE_KEY.false, sym w.any_byte_of_three.ensures ∙ w.if-any_byte_of_three.true)
+          (w.key-is ∙ w.rewrite_key.ensures)
+      | else-held-eq-KIND_WIDE_KEY+else-any_byte_of_three w ↦
+          rw (narrow_key held w.if-held-eq-KIND_WIDE_KEY.false, sym w.any_byte_of_three.ensures ∙ w.if-any_byte_of_three.false)
+          (w.key-is ∙ c.read_key-key.ensures)
+    ] in
+    let place = emitted_in_place (held_wide held) (held_body kind.Key held) c.variant_from_body-variant.result c.entry_from_body-entry.result in
+    let good = sym c.holds_all.ensures ∙ c.if-not-holds_all.false in
+    let s = rw q at c.emit_values.ensures in
+    let p = held_emitted held c.args.text.now c.args.res.now good refl c.variant_from_body-variant.ensures c.entry_from_body-entry.ensures
+    (place_emits place c.args.text.now c.args.res.now (s.number, (s.text, (s.res, s.names)))) in
     record { number = p.0; text = p.1.0; res = p.1.1.0; names = p.1.1.1 }

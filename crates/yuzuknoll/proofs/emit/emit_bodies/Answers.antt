@@ -1,11 +1,10 @@
--- The first cause of the bodies is refused; else their values are emitted: the key that was read, if no byte of one of kind 1 is one of an op of three
--- operands.
-use Rattle.std.proofs.Common.{rules, refl, sym, ◌∙◌}
+-- The first cause of the bodies is refused; else their values are emitted: the key that was read, or rewritten where a byte may be an op of three operands.
+use Rattle.std.proofs.Common.{◌≡◌, rules, refl, sym}
 use Rattle.inspection.proofs.Numbers.{not_zero}
-use Rattle.yuzuknoll.proofs.Emitting.{bodies_admitted, bodies_refused, bodies_emitted}
-use Rattle.yuzuknoll.proofs.Raw.{read_takes_place, read_emits}
+use Rattle.emission.proofs.InPlace.{place_admitted}
+use Rattle.yuzuknoll.proofs.Emitting.{bodies_admitted, bodies_refused, bodies_emitted, place_emits}
+use Rattle.yuzuknoll.proofs.Raw.{emitted_key, emitted_in_place}
 use Rattle.yuzuknoll.proofs.emit.emit_bodies.Goals as goal
-use Rattle.yuzuknoll.proofs.emit.emit_bodies.Goals.{else-not-this-via-then-not-this+else-any_byte_of_three, else-not-this-via-else-not-this}
 
 pub returns-in_err-bodies_cause-clause-number : goal.returns-in_err-bodies_cause-clause-number
 returns-in_err-bodies_cause-clause-number g c =
@@ -14,34 +13,22 @@ returns-in_err-bodies_cause-clause-number g c =
     let n = (bodies_refused _ a.key.now a.variant.now a.entry.now a.text.now a.res.now found (not_zero _)).0 in
     search (rules, n)
 
-pub emit_rewritten-requires : goal.emit_rewritten-requires
-emit_rewritten-requires g c =
+pub invariant_of-values : goal.invariant_of-values
+invariant_of-values g c =
+    let a = c.args in
     let found = rw c.in_ok-bodies_cause.was at c.bodies_cause.ensures in
-    let free = bodies_admitted _ c.args.key.now c.args.variant.now c.args.entry.now (sym found) c.variant_from_body-v.ensures c.entry_from_body-e.ensures in
-    (search rules, search (rules, free))
-
-pub emit_values-requires : goal.emit_values-requires
-emit_values-requires g c =
-    let found = rw c.in_ok-bodies_cause.was at c.bodies_cause.ensures in
-    read_takes_place c.args.key.now c.read_key-k.ensures
-    (elim c.else-not-this.branch [
-      | else-not-this-via-then-not-this+else-any_byte_of_three w ↦ λ _. sym w.any_byte_of_three.ensures ∙ w.if-any_byte_of_three.false
-      | else-not-this-via-else-not-this w ↦ λ e. absurd (w.if-not-this.false (search rules))
-    ])
-    c.variant_from_body-v.result c.entry_from_body-e.result
-    (bodies_admitted _ c.args.key.now c.args.variant.now c.args.entry.now (sym found) c.variant_from_body-v.ensures c.entry_from_body-e.ensures)
+    let q : c.if-not-this.k ≡ emitted_key _ a.key.now = search rules in
+    let place = emitted_in_place _ a.key.now c.variant_from_body-v.result c.entry_from_body-e.result in
+    let free = bodies_admitted _ a.key.now a.variant.now a.entry.now (sym found) c.variant_from_body-v.ensures c.entry_from_body-e.ensures in
+    rw q (record { effective = place.as_it_is; free = place_admitted place free })
 
 pub returns : goal.returns
 returns g c =
     let a = c.args in
     let found = rw c.in_ok-bodies_cause.was at c.bodies_cause.ensures in
-    let s = c.emit_values.ensures in
-    let placed = read_emits a.key.now c.read_key-k.ensures
-    (elim c.else-not-this.branch [
-      | else-not-this-via-then-not-this+else-any_byte_of_three w ↦ λ _. sym w.any_byte_of_three.ensures ∙ w.if-any_byte_of_three.false
-      | else-not-this-via-else-not-this w ↦ λ e. absurd (w.if-not-this.false (search rules))
-    ])
-    c.variant_from_body-v.result c.entry_from_body-e.result a.text.now a.res.now (s.number, (s.text, (s.res, s.names))) in
+    let q : c.if-not-this.k ≡ emitted_key _ a.key.now = search rules in
+    let s = rw q at c.emit_values.ensures in
+    let place = emitted_in_place _ a.key.now c.variant_from_body-v.result c.entry_from_body-e.result in
     let p = bodies_emitted _ a.key.now a.variant.now a.entry.now a.text.now a.res.now found refl
-    c.variant_from_body-v.ensures c.entry_from_body-e.ensures placed in
+    c.variant_from_body-v.ensures c.entry_from_body-e.ensures (place_emits place a.text.now a.res.now (s.number, (s.text, (s.res, s.names)))) in
     record { number = p.0; text = p.1.0; res = p.1.1.0; names = p.1.1.1 }
