@@ -1,4 +1,4 @@
--- A number that is not 0 leaves what is lent, and no later number counts; and numbers stored in an array.
+-- A number that is not 0 leaves what is lent, and no later number counts.
 use Prim.Native.Nat.{ℕ, ◌≤◌}
 use mathlib.Core.Bool.{Bool, true, false, cond, true≢false}
 use mathlib.Core.Path.{◌≡◌, refl, sym, ap, ◌∙◌}
@@ -25,10 +25,3 @@ first_zero a b e = go (eqb a 0) refl e
     go : (t : Bool) → eqb a 0 ≡ t → cond t b a ≡ 0 → (a ≡ 0) × (b ≡ 0)
     go true p z = (eqb-true a 0 p, z)
     go false p z = absurd (true≢false (sym (ap (λ n. eqb n 0) z) ∙ p))
-
--- two numbers and eight, stored over ten
-pub ten_numbers : (l : List ℕ) {a b m n : ℕ} {x y : List ℕ} → a ≡ m → b ≡ n → length l ≡ 10 → x ≡ y → put_mid 2 8 (set (set l 0 a) 1 b) x ≡ m ∷ n ∷ y
-ten_numbers [] p q h e = absurd (omega arith)
-ten_numbers (i ∷ []) p q h e = absurd (omega arith)
-ten_numbers (i ∷ j ∷ l) {x = x} p q h e =
-    let whole : length l ≤ 8 = omega arith in rw (p, q, ← e, drop_of_length-le l whole, append-nil x)

@@ -6,19 +6,18 @@ ghost use Rattle.states.specs.Types.{sets_arg0};
 ghost use Rattle.states.specs.Writes.{accepted};
 ghost use Rattle.yuzuknoll.specs.Applying.{altered_record, held_of, held_wide};
 
-use crate::parts::{HELD_LENGTH, KEY_BODY, KEY_PLACE, VARIANT_PLACE, held_key, holds_key};
+use crate::parts::{HELD_LENGTH, KEY_PLACE, VARIANT_PLACE, held_key, holds_key, is_wide};
 use states::{defaults, set, sets_arg0};
 use values::{Key, StateWrite};
 use wire::alter::alter;
+use wire::key_record;
 use wire::writer::write;
-use wire::{KIND_WIDE_KEY, key_record};
 
 // A key is held, and a write of this type leaves its kind. Such a write changes one stage of the held key and no other byte.
 fn alters_there(held: &[u8; HELD_LENGTH], state: u8) -> bool
     ensures { result ≡ (is_some (held_of held.now).key && (held_wide held.now || not (sets_arg0 state))) }
 {
-    let wide = held[KEY_PLACE] == KIND_WIDE_KEY;
-    holds_key(held) & (wide | !sets_arg0(state))
+    holds_key(held) & (is_wide(held) | !sets_arg0(state))
 }
 
 // The key that a state write alters.
@@ -35,8 +34,8 @@ pub(crate) fn alter_held(held: &mut [u8; HELD_LENGTH], made: StateWrite)
     ensures { held.new ≡ sets held.old 0 (altered_record made held.old) }
 {
     if alters_there(held, made.state) {
-        let wide = held[KEY_PLACE] == KIND_WIDE_KEY;
-        alter(&mut held[KEY_BODY..VARIANT_PLACE], wide, made);
+        let wide = is_wide(held);
+        alter(&mut held[KEY_PLACE + 1..VARIANT_PLACE], wide, made);
         return;
     }
     let after = set(key_or_defaults(held), made);

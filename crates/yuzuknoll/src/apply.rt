@@ -13,16 +13,16 @@ ghost use Rattle.yuzuknoll.specs.Applying.{result_with, text_with};
 use crate::alter::alter_held;
 use crate::emit::{RESULT_LENGTH, emit_values, read_key, rewrite_key};
 use crate::parts::{
-    ENTRY_BODY, ENTRY_PLACE, HELD_LENGTH, KEY_BODY, KEY_PLACE, VARIANT_BODY, VARIANT_PLACE,
-    holds_all, place_of,
+    HELD_LENGTH, entry_in, holds_all, is_wide, key_body, place_of, variant_in,
 };
+use crate::read::record_numbers;
 use emission::emittable::Emittable;
 use inspection::causes::record_kind;
 use inspection::keys::any_byte_of_three;
 use text::put;
 use values::{Refusal, number};
-use wire::reader::{entry_from_body, state_from_body, variant_from_body};
-use wire::{KIND_WIDE_KEY, Kind, record_length};
+use wire::reader::state_from_body;
+use wire::{Kind, record_length};
 
 // A record's kind and length, and a result.
 const APPLIED_LENGTH: usize = 10;
@@ -38,14 +38,14 @@ fn emit_held(
     ensures res { res.new ≡ after (answer_number result) (result_with Kind.Emit (held_of held.now)) res.old }
     ensures names { answer_number result ≡ 0 → HeldReported (held_of held.now) text.new res.new }
 {
-    let body = &held[KEY_BODY..VARIANT_PLACE];
+    let body = key_body(held);
     let mut key = read_key::<false>(body);
     if !holds_all(held) {
         return Err(Refusal::EmitTooEarly);
     }
-    let variant = variant_from_body(&held[VARIANT_BODY..ENTRY_PLACE]);
-    let entry = entry_from_body(&held[ENTRY_BODY..HELD_LENGTH]);
-    if held[KEY_PLACE] == KIND_WIDE_KEY {
+    let variant = variant_in(held);
+    let entry = entry_in(held);
+    if is_wide(held) {
         key = read_key::<true>(body);
     } else if any_byte_of_three(body) {
         rewrite_key(&mut key, body);
@@ -92,12 +92,11 @@ fn do_record(
     Ok(())
 }
 
-fn report_applied(kind: Kind, res: [u64; RESULT_LENGTH], applied: &mut [u64; APPLIED_LENGTH])
-    ensures { applied.new ≡ record_numbers kind ++ res }
+fn report_applied(kind: Kind, res: &[u64; RESULT_LENGTH], applied: &mut [u64; APPLIED_LENGTH])
+    ensures { applied.new ≡ record_numbers kind ++ res.now }
 {
-    applied[0] = u8::from(kind) as u64;
-    applied[1] = record_length(kind) as u64;
-    applied[2..].copy_from_slice(&res);
+    applied[..2].copy_from_slice(&record_numbers(kind));
+    applied[2..].copy_from_slice(res);
 }
 
 fn apply(
@@ -116,7 +115,7 @@ fn apply(
     let kind = record_kind(bytes)?;
     let mut res = [0u64; RESULT_LENGTH];
     do_record(kind, held, bytes, text, &mut res)?;
-    report_applied(kind, res, applied);
+    report_applied(kind, &res, applied);
     Ok(())
 }
 

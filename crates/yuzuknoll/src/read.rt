@@ -9,17 +9,18 @@ use inspection::causes::record_kind;
 use values::{Refusal, number};
 use wire::{Kind, record_length};
 
-pub(crate) fn report_record(kind: Kind, record: &mut [u64; 2])
-    ensures { «record».new ≡ record_numbers kind }
+// A record's kind and length, as they are reported.
+pub(crate) fn record_numbers(kind: Kind) -> [u64; 2]
+    ensures { result ≡ record_numbers kind }
 {
-    *record = [u8::from(kind) as u64, record_length(kind) as u64];
+    [u8::from(kind) as u64, record_length(kind) as u64]
 }
 
 fn read(bytes: &[u8], record: &mut [u64; 2]) -> Result<(), Refusal>
     ensures number { answer_number result ≡ record_number bytes.now }
     ensures reported { «record».new ≡ after (answer_number result) (record_numbers (kind_in bytes.now)) «record».old }
 {
-    report_record(record_kind(bytes)?, record);
+    *record = record_numbers(record_kind(bytes)?);
     Ok(())
 }
 

@@ -4,7 +4,7 @@ ghost use Rattle.values.specs.Refusals.{answer_number};
 ghost use Rattle.yuzuknoll.specs.Lent.{after, at_front, record_numbers};
 ghost use Rattle.yuzuknoll.specs.Records.{bytes_in, copy_number, kind_in};
 
-use crate::read::report_record;
+use crate::read::record_numbers;
 use inspection::causes::record_kind;
 use text::put;
 use values::{Refusal, number};
@@ -21,7 +21,7 @@ fn write(bytes: &[u8], out: &mut [u8], record: &mut [u64; 2]) -> Result<(), Refu
         return Err(Refusal::NoRoom);
     }
     put(out, 0, &bytes[..n]);
-    report_record(kind, record);
+    *record = record_numbers(kind);
     Ok(())
 }
 

@@ -23,11 +23,11 @@ returns-clause-number c =
     let z = sym (rw c.in_ok-kind.was at c.record_kind.ensures.number) in
     let k = kind_told _ (rw c.in_ok-kind.was at c.record_kind.ensures.kind) in
     let bytes : Bytes c.args.bytes.now = search rules in
-    (write_copied c.args.bytes.now _ c.args.record.now z k c.record_length-n.ensures bytes c.if-out-n.false c.put.ensures.written c.report_record.ensures).0
+    (write_copied c.args.bytes.now _ c.args.record.now z k c.record_length-n.ensures bytes c.if-out-n.false c.put.ensures.written c.record_numbers.ensures).0
 
 pub returns-clause-buffer : goal.returns-clause-buffer
 returns-clause-buffer c =
     let z = sym (rw c.in_ok-kind.was at c.record_kind.ensures.number) in
     let k = kind_told _ (rw c.in_ok-kind.was at c.record_kind.ensures.kind) in
     let bytes : Bytes c.args.bytes.now = search rules in
-    (write_copied c.args.bytes.now _ c.args.record.now z k c.record_length-n.ensures bytes c.if-out-n.false c.put.ensures.written c.report_record.ensures).1.0
+    (write_copied c.args.bytes.now _ c.args.record.now z k c.record_length-n.ensures bytes c.if-out-n.false c.put.ensures.written c.record_numbers.ensures).1.0
