@@ -30,6 +30,7 @@ fn filled_byte(digit: u8, b: u8) -> u8
 }
 
 // The bytes of s, filled, into out from at on.
+#[tactic(auto, using(crate::proofs::Copying::copying))]
 fn copy(out: &mut [u8], at: usize, s: &[u8], digit: u8)
     requires { at + length s.now ≤ length out.old }
     ensures { out.new ≡ sets out.old at (filled digit s.now) }
@@ -41,6 +42,7 @@ fn copy(out: &mut [u8], at: usize, s: &[u8], digit: u8)
 }
 
 // One test before the copy and none in it: where s is a literal, its length is known and the copy is a few stores of constants.
+#[tactic(auto, using(crate::proofs::Copying::copying))]
 fn put_filled(out: &mut [u8], at: usize, s: &[u8], digit: u8) -> usize
     ensures { Placed out.old at out.new result (raw (filled digit s.now)) }
 {
