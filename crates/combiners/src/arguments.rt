@@ -1,4 +1,7 @@
 //! Arguments: the source and the modifiers that a byte names, and their text.
+//!
+//! A stage stands beside an argument, and is no part of it: an argument is what its byte names, whatever the stage, and up to six of them would each hold
+//! the same number.
 ghost use Rattle.std.specs.Prelude.{◌≡◌};
 ghost use Rattle.text.specs.Buffer.{Wrote};
 ghost use Rattle.combiners.specs.Arguments.{source_of, arg_of, source_text, replicated, arg_text};

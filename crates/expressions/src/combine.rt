@@ -1,4 +1,4 @@
-//! The text of an expression: its operation's form, with its arguments in it.
+//! The text of an expression: its operation's form, with its arguments in it. A stage stands beside its arguments, as in `combiners::arguments`.
 ghost use Rattle.text.specs.Buffer.{Wrote};
 ghost use Rattle.combiners.specs.Combiners.{expression_text};
 

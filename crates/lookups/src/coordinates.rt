@@ -1,4 +1,7 @@
 //! The coordinates of a stage, and where a lookup reads.
+//!
+//! The stage of a coordinate is that of its lookup. In one value with the coordinate it would stand twice, here and in the sampling, and a clause would
+//! have to say that both are the same.
 ghost use Rattle.text.specs.Text.{lit, pick, ◌⊕◌};
 ghost use Rattle.text.specs.Buffer.{Wrote};
 ghost use Rattle.shader.specs.Lookups.{coordinate_text, quotient_text, uv_text};

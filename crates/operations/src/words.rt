@@ -1,4 +1,6 @@
 //! The words of the table, written: each literal in its own arm, so that its length is a constant to the compiler.
+//!
+//! A stage stands beside its arguments, as in `combiners::arguments`.
 ghost use Rattle.text.specs.Text.{raw, ◌⊕◌};
 ghost use Rattle.text.specs.Buffer.{Wrote};
 ghost use Rattle.combiners.specs.Arguments.{arg_text};

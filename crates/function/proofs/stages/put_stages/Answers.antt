@@ -1,5 +1,4 @@
 -- A turn writes one stage's lookup and line, and counts the lookup; a bump stage has no line.
-use Rattle.std.proofs.Common.{arith}
 use Rattle.function.proofs.Loops.{stages_start, stages_turn, stages_end, survey_marks, no_line, a_line}
 use Rattle.function.proofs.stages.put_stages.Goals as goal
 
@@ -7,9 +6,6 @@ pub loop-i-init : goal.loop-i-init
 loop-i-init c =
     let marks = survey_marks c.args.s.now.key.stages c.args.s.now.survey c.args.s.now.is in
     stages_start _ _ _ _ _ _ _ (rw c.active-stage-items.ensures.stages marks)
-
-pub put_marked-place-requires : goal.put_marked-place-requires
-put_marked-place-requires c = omega (arith, c.loop-i.invariant.few)
 
 -- a bump stage
 pub loop-i-preserved-in_default : goal.loop-i-preserved-in_default
