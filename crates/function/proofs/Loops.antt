@@ -11,7 +11,7 @@ use lib.Seq.{drop-cons}
 use Rattle.std.specs.Prelude.{Option, None, Some}
 use Rattle.text.specs.Text.{when}
 use Rattle.text.specs.Buffer.{Wrote}
-use Rattle.text.proofs.Laws.{◌⨾◌, nothing}
+use Rattle.text.proofs.Laws.{◌⨾◌, nothing, joining}
 use Rattle.combiners.specs.Codes.{bit}
 use Rattle.cascade.specs.Keys.{active}
 use Rattle.cascade.specs.Stages.{decode}
@@ -101,6 +101,9 @@ survey_marks l u e = rw e
 pub survey_live : (l : List Stage) (u : Survey) → u ≡ survey_of l → u.live ≡ live (active l)
 unfolding survey_of
 survey_live l u e = rw e
+
+-- what `grind` is handed at the seven parts of the text
+pub ruleset parts = (joining, survey_live)
 
 -- the line of a decoded stage: none of a bump stage
 pub no_line : {out : List ℕ} {p : ℕ} (alive : Bool) (i : ℕ) (s : Stage) {d : Option Expressions} → d ≡ decode s → d ≡ None

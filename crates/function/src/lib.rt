@@ -25,7 +25,7 @@ pub struct Place {
     pub lookups: u8,
 }
 
-#[tactic(auto, using(text::proofs::Laws::joining, crate::proofs::Loops::survey_live), unfolding(shader::specs::Whole::whole_text, shader::specs::Whole::body_text))]
+#[tactic(auto, using(crate::proofs::Loops::parts), unfolding(shader::specs::Whole::whole_text, shader::specs::Whole::body_text))]
 pub fn put_whole(out: &mut [u8], s: &Surveyed, v: Variant, e: Entry) -> Place
     requires { e.len ≤ 32 }
     ensures wrote { Wrote out.old 0 out.new result.at (whole_text s.now.key v e) }
