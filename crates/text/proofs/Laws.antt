@@ -1,7 +1,7 @@
 -- The laws of writing: one text behind another is the two joined; a text that fits is written whole; which of two texts; a text's length.
 use Prim.Native.Nat.{ℕ, zero, suc, ◌+◌, ◌/◌, ◌%◌, ◌^◌, ◌<◌, ◌≤◌}
 use mathlib.Core.Bool.{Bool, true, false, cond}
-use mathlib.Core.Path.{◌≡◌, refl, ap, sym, subst, ◌∙◌}
+use mathlib.Core.Path.{◌≡◌, refl, ap, sym, ◌∙◌}
 use mathlib.Core.List.{List, [], ◌∷◌, ◌++◌, append_assoc}
 use mathlib.Core.Logic.{by_cases}
 use native.Mathlib.Omega.{arith}
@@ -13,7 +13,7 @@ use lib.ListN.{length, drop, set, length-append}
 use lib.Seq.{sets, sets-eq}
 use Rattle.text.specs.Text.{Text, raw, ◌⊕◌, pick, flat, size, digit, decimal, decimal_of}
 use Rattle.text.specs.Marks.{filled_byte, filled}
-use Rattle.text.specs.Buffer.{Placed, Wrote}
+use Rattle.text.specs.Buffer.{Wrote}
 
 pub flat-length : (t : Text) → length (flat t) ≡ size t
 flat-length (raw x) = refl
@@ -90,14 +90,6 @@ pick_true e w = rw e (record { kept = w.kept; fits = w.fits; over = w.over })
 
 pub pick_false : {l l' : List ℕ} {a a' : ℕ} {b : Bool} {s t : Text} → b ≡ false → Wrote l a l' a' t → Wrote l a l' a' (pick b s t)
 pick_false e w = rw e (record { kept = w.kept; fits = w.fits; over = w.over })
-
--- one piece of the same bytes
-pub same_piece : {l l' : List ℕ} {a a' : ℕ} {s t : Text} → flat s ≡ flat t → Placed l a l' a' s → Placed l a l' a' t
-same_piece e w = record { written = same e w.written; left = rw e at w.left }
-
--- a text that depends on a test
-pub by_test : {l l' : List ℕ} {a a' : ℕ} {s : Text} (t : Bool → Text) (b c : Bool) → b ≡ c → flat s ≡ flat (t c) → Wrote l a l' a' s → Wrote l a l' a' (t b)
-by_test {l} {l'} {a} {a'} t b c e f w = subst (λ (b : Bool). Wrote l a l' a' (t b)) (sym e) (same f w)
 
 -- a test of a number that is known
 pub eqb_at : (x m n : ℕ) (b : Bool) → x ≡ m → eqb m n ≡ b → eqb x n ≡ b
