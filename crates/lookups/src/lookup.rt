@@ -21,7 +21,7 @@ fn put_comparison_lines(out: &mut [u8], at: usize, s: Sampling, c: Coordinate) -
     }
 }
 
-// The lookup of a stage at a coordinate.
+// The lookup of a stage at a coordinate. What its kind says is handed on beside the sampling that holds it: the kinds are told apart here alone.
 #[tactic(auto, unfolding(shader::specs::Lookups::lookup_text))]
 pub fn put_lookup(out: &mut [u8], at: usize, s: Sampling, c: Coordinate) -> usize
     ensures { Wrote out.old at out.new result (lookup_text s.lookup s.lod s.projected s.stage c) }
