@@ -21,7 +21,8 @@ use Rattle.std.proofs.Math.Bool.{and-false, or-false, and-true, or_assoc, and_as
 in_some : (f : ℕ → Bool) (k : Combiner) (e : Bool)
     → ((f k.arg1 && e) || ((f k.arg2 && e) || (three_operands k.op && (f k.arg0 && e)))) ≡ (some f k && e)
 in_some f k e =
-    rw (← and_assoc (three_operands k.op) (f k.arg0) e, ← and-or_distrib_right (f k.arg2) (third f k) e) (sym (and-or_distrib_right (f k.arg1) (f k.arg2 || third f k) e))
+    rw (← and_assoc (three_operands k.op) (f k.arg0) e, ← and-or_distrib_right (f k.arg2) (third f k) e)
+    (sym (and-or_distrib_right (f k.arg1) (f k.arg2 || third f k) e))
 
 alone : (same e : Bool) → ((same && e) || false) ≡ ((same && true) && e)
 alone true e = or-false e
