@@ -1,14 +1,14 @@
 -- The active stages are the first ones, as many as the count says; a walk over them goes by the rest of the list.
 use Prim.Native.Nat.{ℕ, suc, ◌+◌, ◌<◌, ◌≤◌}
 use mathlib.Core.Bool.{Bool, true, false, cond}
-use mathlib.Core.Path.{◌≡◌, refl, ap, ◌∙◌}
+use mathlib.Core.Path.{◌≡◌, refl}
 use mathlib.Core.List.{List, [], ◌∷◌}
 use native.Mathlib.Omega.{arith}
 use native.Mathlib.Numerals.{add-one}
 use borrow.Author.Tests.{ne_eqb}
 use lib.Dec.{eqb}
 use lib.ListN.{length, take, drop, get_or, drop_of_length-le}
-use lib.Seq.{drop-cons, get_or-take, length-take-le}
+use lib.Seq.{drop-cons}
 use Rattle.combiners.specs.Codes.{disable}
 use Rattle.cascade.specs.Keys.{active, active_count}
 use Rattle.values.specs.declared.Stage.{Stage}
@@ -37,19 +37,6 @@ pub count_le : (l : List Stage) → active_count l ≤ length l
 unfolding active_count
 count_le [] = omega arith
 count_le (s ∷ r) = cond_le (eqb s.colour.op disable) s r (active_count r) (count_le r)
-
--- the active stages from the i-th on: that one, and those behind it
-pub here : (l : List Stage) (i : ℕ) (d : Stage) → i < active_count l → drop i (active l) ≡ get_or l i d ∷ drop (i + 1) (active l)
-here l i d h =
-    let k : active_count l ≤ length l = count_le l in
-    rw (active-take l, add-one)
-    (drop-cons (take (active_count l) l) i d (rw (length-take-le (active_count l) l k) h)
-    ∙ ap (λ (x : Stage). x ∷ drop (suc i) (take (active_count l) l)) (get_or-take (active_count l) l i d h))
-
--- none behind the last
-pub past : (l : List Stage) (i : ℕ) → active_count l ≤ i → drop i (active l) ≡ []
-past l i h =
-    rw (active-take l) (drop_of_length-le (take (active_count l) l) {i = i} (rw (length-take-le (active_count l) l (count_le l)) h))
 
 -- the count, as far as it has come
 pub over : (l : List Stage) (i : ℕ) → length l ≤ i → active_count (drop i l) ≡ 0

@@ -1,7 +1,8 @@
--- What the walks over the stages carry from the last active stage to the first, and what a closure tests. Only contracts of private functions cite it: it need not be believed.
-use Rattle.std.specs.Prelude.{◌≡◌, ℕ, ◌+◌, ◌*◌, ◌<◌, Bool, not, ◌&&◌, ◌||◌, cond, List, eqb}
+-- What the walks over the stages carry from the last active stage to the first, and what a closure tests. Only contracts of private functions cite
+-- it: it need not be believed.
+use Rattle.std.specs.Prelude.{◌≡◌, ℕ, ◌+◌, ◌*◌, ◌%◌, Bool, not, ◌&&◌, ◌||◌, cond, List, ltb}
 use Rattle.combiners.specs.Warnings.{Cause, op_cause, selector_cause, modifier_cause, without_text, unknown_selector, unknown_modifier}
-use Rattle.cascade.specs.Keys.{textured, some, bump, stages_where, mask_of, reads_constant, names_factor, last_constant, any_factor}
+use Rattle.cascade.specs.Keys.{textured, some, bump, stages_where, mask_of, reads_constant, names_factor, rows_of}
 use Rattle.cascade.specs.Reading.{reads_temp, reads_texel, live, lined, marked, luminance, reads_bump_env}
 use Rattle.cascade.specs.Warnings.{applies_colour, applies_alpha}
 use Rattle.cascade.specs.Survey.{marks_of}
@@ -28,37 +29,42 @@ applies p s = (applies_colour s && p s.colour) || (applies_alpha s && p s.alpha)
 unfoldable pub warns : Cause → Stage → Bool
 warns c s = applies (gives c) s
 
--- the stages from number i on, each by itself
-unfoldable pub facts_of : ℕ → List Stage → Facts
-facts_of i ss =
+-- the mask of the stages behind one, with that one's bit in front of theirs, as a byte
+abbrev pub in_front : Bool → ℕ → ℕ
+in_front here behind = (cond here 1 0 + 2 * behind) % 256
+
+-- the rows with one stage more in front, by whether it reads its constant or names the factor
+abbrev pub rows_by : Bool → Bool → ℕ → ℕ
+rows_by constant factor later = cond (ltb 1 later) ((later + 1) % 256) (cond constant 2 (cond factor 1 later))
+
+-- the stages, each by itself, where the first is stage 0
+unfoldable pub facts_of : List Stage → Facts
+facts_of ss =
     record {
       mask = mask_of ss;
-      constant = last_constant i ss;
-      factor = any_factor ss;
+      rows = rows_of ss;
       live = live ss;
-      op = stages_where (warns op_cause) ss;
-      selector = stages_where (warns selector_cause) ss;
-      modifier = stages_where (warns modifier_cause) ss;
+      warnings =
+          record {
+            op = stages_where (warns op_cause) ss;
+            selector = stages_where (warns selector_cause) ss;
+            modifier = stages_where (warns modifier_cause) ss;
+          };
     }
 
--- the masks are of at most seven stages, so there is room for one more in front
-pub record SevenStages (f : Facts) : Type 0 where
-  pub mask : f.mask < 128
-  pub op : f.op < 128
-  pub selector : f.selector < 128
-  pub modifier : f.modifier < 128
-
 -- the same with one stage more in front
-abbrev pub add_fact : ℕ → Stage → Facts → Facts
-add_fact i s f =
+abbrev pub add_fact : Stage → Facts → Facts
+add_fact s f =
     record {
-      mask = cond (textured s) 1 0 + 2 * f.mask;
-      constant = cond (eqb f.constant 0) (cond (reads_constant s) (i + 2) 0) f.constant;
-      factor = names_factor s || f.factor;
+      mask = in_front (textured s) f.mask;
+      rows = rows_by (reads_constant s) (names_factor s) f.rows;
       live = (not (bump s) && reads_temp s) || f.live;
-      op = cond (warns op_cause s) 1 0 + 2 * f.op;
-      selector = cond (warns selector_cause s) 1 0 + 2 * f.selector;
-      modifier = cond (warns modifier_cause s) 1 0 + 2 * f.modifier;
+      warnings =
+          record {
+            op = in_front (warns op_cause s) f.warnings.op;
+            selector = in_front (warns selector_cause s) f.warnings.selector;
+            modifier = in_front (warns modifier_cause s) f.warnings.modifier;
+          };
     }
 
 -- the stages once it is known whether TEMP is live
@@ -74,6 +80,6 @@ abbrev pub add_mark : Bool → Stage → Marks → Marks
 add_mark alive s m =
     record {
       next = marked_by alive s m.next;
-      marks = cond (marked_by alive s m.next) 1 0 + 2 * m.marks;
+      marks = in_front (marked_by alive s m.next) m.marks;
       bump_env = (bump s && (m.next && (textured s || luminance s))) || m.bump_env;
     }

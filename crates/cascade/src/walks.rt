@@ -1,8 +1,7 @@
 //! What a key says before any byte of text. Each walk goes from the last active stage to the first, as the rules speak of the stages behind one.
-ghost use Rattle.std.specs.Prelude.{◌<◌, ◌≤◌, ◌+◌, ◌*◌, ◌≡◌, cond, eqb};
-ghost use Rattle.cascade.specs.Keys.{active, active_count, reads_constant};
+ghost use Rattle.std.specs.Prelude.{◌≤◌, ◌≡◌, length};
 ghost use Rattle.cascade.specs.Survey.{survey_of};
-ghost use Rattle.cascade.specs.Walks.{SevenStages, facts_of, add_fact, marks_from, add_mark};
+ghost use Rattle.cascade.specs.Walks.{facts_of, add_fact, marks_from, add_mark, in_front, rows_by};
 
 use crate::Survey;
 use crate::keys::{
@@ -13,16 +12,13 @@ use crate::reading::{is_lined, is_luminance, reads_temp, reads_texel};
 use crate::warnings::{warns_modifier, warns_op, warns_selector};
 use values::{Key, Stage, Warnings};
 
-// What the stages say each by itself: the mask, the last constant row, whether the factor is named and TEMP read, and the stages that warn.
+// What the stages say each by itself, where the first of them is stage 0: the mask, the rows, whether TEMP is read, and the stages that warn.
 #[derive(Clone, Copy, Default)]
 struct Facts {
     mask: u8,
-    constant: u8,
-    factor: bool,
+    rows: u8,
     live: bool,
-    op: u8,
-    selector: u8,
-    modifier: u8,
+    warnings: Warnings,
 }
 
 // What they say once it is known whether TEMP is live: whether the first is marked, all marks, and whether `bump_env` is read.
@@ -33,67 +29,66 @@ struct Marks {
     bump_env: bool,
 }
 
-// The mask of the stages behind one, with that one's bit in front of theirs.
+// The mask of the stages behind one, with that one's bit in front of theirs. A byte has room for eight.
 fn in_front(here: bool, behind: u8) -> u8
-    requires { behind < 128 }
-    ensures { result ≡ cond here 1 0 + 2 * behind }
+    ensures { result ≡ in_front here behind }
 {
-    u8::from(here) + 2 * behind
+    u8::from(here) + (behind << 1)
 }
 
-// The rows up to the last constant, of a later stage or of this one: row 0 is the factor's, row i + 1 the constant of stage i.
-fn last_constant(later: u8, s: Stage, i: u8) -> u8
-    requires { i < 8 }
-    ensures { result ≡ cond (eqb later 0) (cond (reads_constant s) (i + 2) 0) later }
+// The rows with one stage more in front, by whether it reads its constant or names the factor: row 0 is the factor's, row i + 1 the constant of stage i.
+fn rows_by(later: u8, constant: bool, factor: bool) -> u8
+    ensures { result ≡ rows_by constant factor later }
 {
-    if later != 0 {
-        return later;
+    if 1 < later {
+        return later.wrapping_add(1);
     }
-    if reads_constant(s) {
-        return i + 2;
+    if constant {
+        return 2;
     }
-    0
+    if factor { 1 } else { later }
 }
 
-fn add_fact(f: Facts, s: Stage, i: u8) -> Facts
-    requires { (i < 8) × SevenStages f }
-    ensures { result ≡ add_fact i s f }
+fn add_fact(f: Facts, s: Stage) -> Facts
+    ensures { result ≡ add_fact s f }
 {
+    let mask = in_front(textured(s), f.mask);
+    let op = in_front(warns_op(s), f.warnings.op);
     if is_plain(s) {
         return Facts {
-            mask: in_front(textured(s), f.mask),
-            factor: blends_by_factor(s) | f.factor,
-            op: in_front(warns_op(s), f.op),
-            selector: in_front(false, f.selector),
-            modifier: in_front(false, f.modifier),
-            ..f
+            mask,
+            rows: rows_by(f.rows, false, blends_by_factor(s)),
+            live: f.live,
+            warnings: Warnings {
+                op,
+                selector: in_front(false, f.warnings.selector),
+                modifier: in_front(false, f.warnings.modifier),
+            },
         };
     }
     Facts {
-        mask: in_front(textured(s), f.mask),
-        constant: last_constant(f.constant, s, i),
-        factor: names_factor(s) | f.factor,
+        mask,
+        rows: rows_by(f.rows, reads_constant(s), names_factor(s)),
         live: (!is_bump(s) & reads_temp(s)) | f.live,
-        op: in_front(warns_op(s), f.op),
-        selector: in_front(warns_selector(s), f.selector),
-        modifier: in_front(warns_modifier(s), f.modifier),
+        warnings: Warnings {
+            op,
+            selector: in_front(warns_selector(s), f.warnings.selector),
+            modifier: in_front(warns_modifier(s), f.warnings.modifier),
+        },
     }
 }
 
-#[tactic(auto, using(crate::proofs::Active::count_le, crate::proofs::Walking::facts_none, crate::proofs::Walking::facts_small))]
-fn facts_of(k: Key, n: usize) -> Facts
-    requires { n ≡ active_count k.stages }
-    ensures { result ≡ facts_of 0 (active k.stages) }
+fn facts_of(stages: &[Stage]) -> Facts
+    requires { length stages.now ≤ 8 }
+    ensures { result ≡ facts_of stages.now }
 {
-    let mut f = Facts::default();
-    for i in (0..n).rev() {
-        f = add_fact(f, k.stages[i], i as u8);
-    }
-    f
+    stages
+        .iter()
+        .rev()
+        .fold(Facts::default(), |f, s| add_fact(f, *s))
 }
 
 fn add_mark(m: Marks, s: Stage, alive: bool) -> Marks
-    requires { m.marks < 128 }
     ensures { result ≡ add_mark alive s m }
 {
     let bump = is_bump(s);
@@ -107,43 +102,29 @@ fn add_mark(m: Marks, s: Stage, alive: bool) -> Marks
     }
 }
 
-#[tactic(auto, using(crate::proofs::Active::count_le, crate::proofs::Walking::marks_none, crate::proofs::Walking::few_marks))]
-fn marks_from(k: Key, n: usize, alive: bool) -> Marks
-    requires { n ≡ active_count k.stages }
-    ensures { result ≡ marks_from alive (active k.stages) }
+fn marks_from(stages: &[Stage], alive: bool) -> Marks
+    requires { length stages.now ≤ 8 }
+    ensures { result ≡ marks_from alive stages.now }
 {
-    let mut m = Marks::default();
-    for i in (0..n).rev() {
-        m = add_mark(m, k.stages[i], alive);
-    }
-    m
+    stages
+        .iter()
+        .rev()
+        .fold(Marks::default(), |m, s| add_mark(m, *s, alive))
 }
 
-fn rows(f: Facts) -> u8
-    ensures { result ≡ cond (eqb f.constant 0) (cond f.factor 1 0) f.constant }
-{
-    if f.constant != 0 {
-        return f.constant;
-    }
-    u8::from(f.factor)
-}
-
-#[tactic(auto, using(crate::proofs::Walking::surveyed))]
+#[tactic(auto, using(crate::proofs::Active::count_le, crate::proofs::Walking::surveyed))]
 pub fn survey(k: Key) -> Survey
     ensures { result ≡ survey_of k.stages }
 {
-    let n = active_count(k);
-    let f = facts_of(k, n);
-    let m = marks_from(k, n, f.live);
+    let count = active_count(k);
+    let active = &k.stages[..count];
+    let f = facts_of(active);
+    let m = marks_from(active, f.live);
     Survey {
-        count: n,
+        count,
         mask: f.mask,
-        rows: rows(f),
-        warnings: Warnings {
-            op: f.op,
-            selector: f.selector,
-            modifier: f.modifier,
-        },
+        rows: f.rows,
+        warnings: f.warnings,
         live: f.live,
         marks: m.marks,
         bump_env: m.bump_env,

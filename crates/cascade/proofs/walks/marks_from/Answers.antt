@@ -1,7 +1,13 @@
--- The marks of one stage more are put in front of those of the stages behind it.
-use Rattle.std.proofs.Common.{arith}
-use Rattle.cascade.proofs.Walking.{marks_more}
+-- The fold puts the marks of one stage more in front of those of the stages behind it.
+use Rattle.std.proofs.Common.{rules}
+use Rattle.cascade.specs.Reading.{marked, reads_bump_env}
+use Rattle.cascade.specs.Survey.{marks_of}
+use Rattle.cascade.specs.Walks.{marks_from, add_mark}
+use Rattle.cascade.proofs.Walking.{walked, marks_cons}
 use Rattle.cascade.proofs.walks.marks_from.Goals as goal
 
-pub loop-i-preserved : goal.loop-i-preserved
-loop-i-preserved c = marks_more _ _ _ (omega arith) (omega arith) _ _ _ c.loop-i.invariant c.add_mark-m.ensures
+pub returns : goal.returns
+unfolding marks_from marked marks_of reads_bump_env
+returns c =
+    walked (marks_from c.args.alive) (add_mark c.args.alive) (marks_cons c.args.alive) _ _ (λ m x n f' k. search rules) _ _ (search rules) c.requires _ _
+    (search rules) c.fold.ensures.ran
