@@ -38,13 +38,11 @@ fn narrow_stage(s: Stage) -> Stage
 fn effective_stages(k: Key) -> [Stage; 8]
     ensures { result ≡ effective_stages k }
 {
-    let mut stages = k.stages;
-    if !k.wide {
-        for s in &mut stages {
-            *s = narrow_stage(*s);
-        }
+    if k.wide {
+        k.stages
+    } else {
+        k.stages.map(narrow_stage)
     }
-    stages
 }
 
 pub fn effective(k: Key) -> Key
