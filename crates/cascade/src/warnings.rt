@@ -1,6 +1,6 @@
 //! What a stage warns of: an op without a text, a selector or a modifier without a meaning, where its combiners are applied.
 //!
-//! Few combiners give a cause, so each rule asks for the cause first.
+//! Few combiners give a cause, so each rule asks for the cause first. The rules stay three, since a plain stage is asked about its ops alone.
 ghost use Rattle.std.specs.Prelude.{◌≡◌, Bool};
 ghost use Rattle.combiners.specs.Warnings.{op_cause, selector_cause, modifier_cause};
 ghost use Rattle.cascade.specs.Warnings.{applies_colour, applies_alpha};
