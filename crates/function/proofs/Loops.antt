@@ -1,11 +1,11 @@
 -- The loop over the active stages: what is still to be written, written, makes the whole.
-use Prim.Native.Nat.{ℕ, suc, ◌+◌, ◌*◌, ◌/◌, ◌%◌, ◌<◌, ◌≤◌}
+use Prim.Native.Nat.{ℕ, zero, suc, ◌+◌, ◌*◌, ◌/◌, ◌%◌, ◌^◌, ◌<◌, ◌≤◌}
 use mathlib.Core.Bool.{Bool, true, false, cond}
-use mathlib.Core.Path.{◌≡◌, refl, sym, ◌∙◌}
-use mathlib.Core.List.{List, ◌∷◌}
+use mathlib.Core.Path.{◌≡◌, sym, ◌∙◌}
+use mathlib.Core.List.{List, [], ◌∷◌}
 use native.Mathlib.Omega.{arith}
+use native.Mathlib.Nat.{pow-succ', div-div-eq-div-mul}
 use native.Mathlib.Numerals.{add-one}
-use lib.Dec.{eqb}
 use lib.ListN.{length, drop, get_or, drop_of_length-le}
 use lib.Seq.{drop-cons}
 use Rattle.std.specs.Prelude.{Option, None, Some}
@@ -26,14 +26,14 @@ use Rattle.shader.specs.Whole.{stage_line, stages_text}
 use Rattle.values.specs.declared.Variant.{Variant}
 use Rattle.shader.specs.declared.BumpStage.{BumpStage}
 
--- the lowest of the marks, and the others
-mark_first : (alive : Bool) (s : Stage) (r : List Stage) → eqb (marks_of alive (s ∷ r) % 2) 1 ≡ marked alive (s ∷ r)
+-- bit i of the marks is that of stage i
+mark_first : (alive : Bool) (s : Stage) (r : List Stage) → bit (marks_of alive (s ∷ r)) 0 ≡ marked alive (s ∷ r)
 unfolding marks_of
 mark_first alive s r = go (marked alive (s ∷ r)) (marks_of alive r)
   where
-    go : (b : Bool) (m : ℕ) → eqb ((cond b 1 0 + 2 * m) % 2) 1 ≡ b
-    go true m = let e : (1 + 2 * m) % 2 ≡ 1 = omega arith in rw e
-    go false m = let e : (0 + 2 * m) % 2 ≡ 0 = omega arith in rw e
+    go : (b : Bool) (m : ℕ) → bit (cond b 1 0 + 2 * m) 0 ≡ b
+    go true m = let e : (1 + 2 * m) / 1 % 2 ≡ 1 = omega arith in rw e
+    go false m = let e : (0 + 2 * m) / 1 % 2 ≡ 0 = omega arith in rw e
 
 mark_rest : (alive : Bool) (s : Stage) (r : List Stage) → marks_of alive (s ∷ r) / 2 ≡ marks_of alive r
 unfolding marks_of
@@ -42,6 +42,12 @@ mark_rest alive s r = go (marked alive (s ∷ r)) (marks_of alive r)
     go : (b : Bool) (m : ℕ) → (cond b 1 0 + 2 * m) / 2 ≡ m
     go true m = omega arith
     go false m = omega arith
+
+mark_bit : (alive : Bool) (l : List Stage) (i : ℕ) → i < length l → bit (marks_of alive l) i ≡ marked alive (drop i l)
+mark_bit alive [] i h = absurd (omega arith)
+mark_bit alive (s ∷ r) zero h = mark_first alive s r
+mark_bit alive (s ∷ r) (suc i) h =
+    rw (pow-succ' 2 i, ← div-div-eq-div-mul (marks_of alive (s ∷ r)) 2 (2 ^ i), mark_rest alive s r) (mark_bit alive r i (omega arith))
 
 counts : (alive : Bool) (s : Stage) (r : List Stage) (n : ℕ)
     → cond (marked alive (s ∷ r)) (suc n) n + lookups_of alive r ≡ n + lookups_of alive (s ∷ r)
@@ -57,46 +63,42 @@ fewer true n i h = omega arith
 fewer false n i h = omega arith
 
 module _ (v : Variant) (projected : ℕ) (alive : Bool) (l : List Stage) (out₀ : List ℕ) (at : ℕ) where
-  -- The stages from number i on are still to be written into out at p, behind the stage before; m are their marks, and n lookups have been written.
-  pub record AtStage (out : List ℕ) (p : ℕ) (before : Option BumpStage) (i m n : ℕ) : Type 0 where
+  -- The stages from number i on are still to be written into out at p, behind the stage before; n lookups have been written.
+  pub record AtStage (out : List ℕ) (p : ℕ) (before : Option BumpStage) (i n : ℕ) : Type 0 where
     pub rest : (out' : List ℕ) (p' : ℕ) → Wrote out p out' p' (stages_text v projected alive before i (drop i l))
         → Wrote out₀ at out' p' (stages_text v projected alive None 0 l)
-    pub marks : m ≡ marks_of alive (drop i l)
     pub counted : n + lookups_of alive (drop i l) ≡ lookups_of alive l
     pub few : n ≤ i
 
-  pub stages_start : (m : ℕ) → m ≡ marks_of alive l → AtStage out₀ at None 0 m 0
-  stages_start m h = record { rest = λ o p w. w; marks = h; counted = omega arith; few = omega arith }
-
-  pub stages_turn : {out out₁ out₂ : List ℕ} {p p₁ p₂ m n n₁ : ℕ} {before : Option BumpStage} (i : ℕ) (d : Stage) → i < length l
-      → AtStage out p before i m n
-      → Wrote out p out₁ p₁ (when (eqb (m % 2) 1) (sample_text before (lookup_of v i) (lod_bias v) (bit projected i) i))
+  pub stages_turn : {out out₁ out₂ : List ℕ} {p p₁ p₂ n n₁ : ℕ} {before : Option BumpStage} {b : Bool} (i : ℕ) (d : Stage) → i < length l
+      → b ≡ marked alive (drop i l) → AtStage out p before i n
+      → Wrote out p out₁ p₁ (when b (sample_text before (lookup_of v i) (lod_bias v) (bit projected i) i))
       → Wrote out₁ p₁ out₂ p₂ (stage_line alive i (get_or l i d) (decode (get_or l i d)))
-      → n₁ ≡ cond (eqb (m % 2) 1) (suc n) n → AtStage out₂ p₂ (before_of i (get_or l i d)) (i + 1) (m / 2) n₁
+      → n₁ ≡ cond b (suc n) n → AtStage out₂ p₂ (before_of i (get_or l i d)) (i + 1) n₁
   unfolding stages_text
-  stages_turn {m = m} {n} {n₁} i d h inv w₁ w₂ e =
+  stages_turn {n = n} {n₁} {b = b} i d h mark inv w₁ w₂ e =
       let s = get_or l i d in
       let r = drop (suc i) l in
       let c = drop-cons l i d h in
-      let b : eqb (m % 2) 1 ≡ marked alive (s ∷ r) = rw (inv.marks, c) (mark_first alive s r) in
+      let own : b ≡ marked alive (s ∷ r) = rw c at mark in
       record {
-        rest = λ o p x. inv.rest o p (rw (c, ← b) (w₁ ⨾ w₂ ⨾ rw add-one at x));
-        marks = rw (inv.marks, c, add-one) (mark_rest alive s r);
-        counted = rw (e, b, add-one) (counts alive s r n ∙ rw c at inv.counted);
-        few = rw e (fewer (eqb (m % 2) 1) n i inv.few);
+        rest = λ o p x. inv.rest o p (rw (c, ← own) (w₁ ⨾ w₂ ⨾ rw add-one at x));
+        counted = rw (e, own, add-one) (counts alive s r n ∙ rw c at inv.counted);
+        few = rw e (fewer b n i inv.few);
       }
 
-  pub stages_end : {out : List ℕ} {p m n : ℕ} {before : Option BumpStage} (i : ℕ) → length l ≤ i → AtStage out p before i m n
+  pub stages_end : {out : List ℕ} {p n : ℕ} {before : Option BumpStage} (i : ℕ) → length l ≤ i → AtStage out p before i n
       → Wrote out₀ at out p (stages_text v projected alive None 0 l) × (n ≡ lookups_of alive l)
   unfolding stages_text lookups_of
   stages_end {out} {p} i h inv =
       let c = drop_of_length-le l h in
       (inv.rest out p (rw c (nothing out p)), omega (arith, rw c at inv.counted))
 
--- what a survey says of the marks and of TEMP
-pub survey_marks : (l : List Stage) (u : Survey) → u ≡ survey_of l → u.marks ≡ marks_of u.live (active l)
+-- what a survey says of a stage's mark and of TEMP
+pub survey_marked : (l stages : List Stage) (u : Survey) → u ≡ survey_of l → stages ≡ active l → (i : ℕ) → i < length stages
+    → bit u.marks i ≡ marked u.live (drop i stages)
 unfolding survey_of
-survey_marks l u e = rw e
+survey_marked l stages u e f i h = rw (e, f) (mark_bit (live (active l)) (active l) i (rw f at h))
 
 pub survey_live : (l : List Stage) (u : Survey) → u ≡ survey_of l → u.live ≡ live (active l)
 unfolding survey_of

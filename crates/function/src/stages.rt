@@ -97,14 +97,13 @@ pub(crate) fn put_stages(out: &mut [u8], at: usize, s: &Surveyed, v: Variant) ->
     ensures lookups_value { result.lookups ≡ lookups_of s.now.survey.live (active s.now.key.stages) }
 {
     let alive = s.survey.live;
-    let mut marks = s.survey.marks;
     let mut before = None;
     let mut place = Place { at, lookups: 0 };
     for (i, stage) in s.active().iter().enumerate() {
         let n = StageIndex::new(i as u8);
-        place = put_marked(out, place, marks % 2 == 1, before, v, s.key.projected, n);
+        let marked = bit(s.survey.marks as u16, i as u8);
+        place = put_marked(out, place, marked, before, v, s.key.projected, n);
         before = before_of(n, *stage);
-        marks /= 2;
         // A bump stage has no expressions, and so no line.
         let Some(e) = decode(*stage) else {
             continue;

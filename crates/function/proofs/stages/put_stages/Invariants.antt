@@ -4,4 +4,4 @@ use Rattle.function.proofs.stages.put_stages.Given as goal
 
 abbrev pub invariant-loop-i : goal.invariant-loop-i
 invariant-loop-i l =
-    AtStage l.v l.s.key.projected l.alive l.stage-items l.fn.out l.at l.out l.place.at l.before l.i l.marks l.place.lookups
+    AtStage l.v l.s.key.projected l.alive l.stage-items l.fn.out l.at l.out l.place.at l.before l.i l.place.lookups
