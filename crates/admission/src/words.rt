@@ -55,6 +55,8 @@ fn reserved(name: &[u8]) -> bool
     }
 }
 
+// Not inlined beside `entry_good`, where the compiler would take the name apart: that took 60 steps more for an entry.
+#[inline(never)]
 #[tactic(auto, using(crate::proofs::Reserved::too_long))]
 pub(crate) fn entry_reserved(entry: Entry) -> bool
     ensures { result ≡ entry_reserved entry }
