@@ -26,7 +26,8 @@ pub struct Stage {
 }
 
 // Bit i of projected is for stage i. A wide key, of record kind 6, has stages of nine bytes, with argument 0 of colour and of alpha; in another, of
-// kind 1 with stages of seven, no op has an argument 0.
+// kind 1 with stages of seven, no op has an argument 0. Its stages hold one that nothing reads: with an `Option`, or an enum of two keys, stages would be
+// of two shapes, where one definition gives the text of both kinds.
 #[derive(Clone, Copy, Default)]
 pub struct Key {
     pub stages: [Stage; 8],
