@@ -150,7 +150,8 @@ module _ (P : Result Reading Refusal → Type 0) (b : List ℕ) (cases : Cases P
 
 -- The reader's number is that of 01's table.
 pub read_number_lem : {a : Result Reading Refusal} (b : List ℕ) → a ≡ read_record b → answer_number a ≡ record_number b
-read_number_lem b e = ap answer_number e ∙ read_either (λ (a : Result Reading Refusal). answer_number a ≡ record_number b) b (λ c n. sym n) (λ r t. sym t.number)
+read_number_lem b e =
+    ap answer_number e ∙ read_either (λ (a : Result Reading Refusal). answer_number a ≡ record_number b) b (λ c n. sym n) (λ r t. sym t.number)
 
 -- what a record that was read tells
 pub read_taken : (b : List ℕ) (r : Reading) → read_record b ≡ Ok r → Taken b r.«record» × (record_length (kind_of r.«record») ≡ r.length)
