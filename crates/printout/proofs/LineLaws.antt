@@ -2,14 +2,14 @@
 use mathlib.Core.Path.{◌≡◌, refl}
 use mathlib.Core.Bool.{Bool, true, false, cond}
 use mathlib.Core.List.{List, [], ◌∷◌, ◌++◌}
-use Prim.Native.Nat.{ℕ, zero, suc, ◌+◌, ◌-◌, ◌/◌, ◌%◌, ◌≤◌, ◌<◌}
+use Prim.Native.Nat.{ℕ, zero, suc, ◌+◌, ◌/◌, ◌%◌, ◌≤◌, ◌<◌}
 use native.Mathlib.Omega.{arith}
-use borrow.Author.Tests.{lt-ltb, le-ltb}
 use lib.Dec.{ltb}
-use lib.ListN.{length, length-append}
-use Rattle.text.specs.Text.{Text, bytes, flat, ◌⊕◌, digit, decimal, decimal_of}
+use lib.ListN.{length, take, get_or, length-append}
+use Rattle.std.proofs.lemmas.Grind.{take_at_read}
+use Rattle.text.specs.Text.{Text, bytes, lit, flat, ◌⊕◌, decimal, decimal_of}
 use Rattle.text.specs.Buffer.{Wrote}
-use Rattle.text.proofs.Laws.{whole, pick_true, pick_false, one_digit}
+use Rattle.text.proofs.Laws.{◌⨾◌, whole}
 use Rattle.values.specs.declared.Emitted.{Emitted}
 use Rattle.values.specs.Refusals.{number_of}
 use Rattle.values.specs.declared.Refusal.{Refusal}
@@ -28,6 +28,21 @@ digits_short (suc d) n = one_more (ltb n 10) d (48 + n) (48 + n % 10) (flat (dec
 yes_or_no : (b : Bool) → length (cond b (bytes "1") (bytes "0")) ≡ 1
 yes_or_no true = refl
 yes_or_no false = refl
+
+-- numbers behind a text, with a space behind each
+abbrev pub spaced : Text → List ℕ → Text
+spaced t [] = t
+spaced t (n ∷ r) = spaced (t ⊕ decimal n ⊕ lit " ") r
+
+spaced_more : (t : Text) (l : List ℕ) (n : ℕ) → spaced t (l ++ (n ∷ [])) ≡ spaced t l ⊕ decimal n ⊕ lit " "
+spaced_more t [] n = refl
+spaced_more t (x ∷ l) n = spaced_more (t ⊕ decimal x ⊕ lit " ") l n
+
+-- one number more of a list
+pub next_number : {l l' l'' : List ℕ} {a a' a'' i : ℕ} (t : Text) (ns : List ℕ) → i < length ns → Wrote l a l' a' (spaced t (take i ns)) →
+    Wrote l' a' l'' a'' (decimal (get_or ns i 0) ⊕ lit " ") → Wrote l a l'' a'' (spaced t (take (i + 1) ns))
+next_number {i = i} t ns h w v =
+    rw ((take_at_read ns i 0 h).1, spaced_more t (take i ns) (get_or ns i 0)) (w ⨾ v)
 
 emit_short : (e : Emitted) → length (emit_line e) ≤ 152
 unfolding emit_line

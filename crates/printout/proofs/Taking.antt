@@ -5,8 +5,7 @@ use Prim.Native.Nat.{ℕ, ◌+◌, ◌-◌, ◌^◌, ◌≤◌, ◌<◌}
 use native.Mathlib.Omega.{arith}
 use lib.ListN.{length, take, drop, length-drop}
 use lib.Seq.{take_all}
-use Rattle.std.specs.Prelude.{IfSome, Result, Ok, Err, IfOk}
-use Rattle.values.specs.declared.Emitted.{Emitted}
+use Rattle.std.specs.Prelude.{IfSome, Result, Ok, IfOk}
 use Rattle.values.specs.declared.Refusal.{Refusal}
 use Rattle.records.specs.Applying.{all_held, text_held, apply_answer}
 use Rattle.records.specs.declared.Held.{Held}

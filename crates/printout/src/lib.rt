@@ -17,7 +17,7 @@ pub const INPUT_LENGTH: usize = 32768;
 // The length of the buffer for text. No text is longer.
 pub const TEXT_LENGTH: usize = 16384;
 
-// The offset of the next record, the texts so far, and what is held.
+// The offset of the next record, the texts so far, and what is held. Neither number tells the other, since not every record asks for a text.
 #[derive(Clone, Copy, Default)]
 pub struct Session {
     pub at: usize,
@@ -26,7 +26,7 @@ pub struct Session {
 }
 
 // What a step prints: the front of the line, then the front of the text, each of this length; and the session that prints what is behind it, if
-// anything is.
+// anything is. Lengths and not slices: a contract gives each lent byte, and a buffer that is handed on in part has no value behind the call.
 #[derive(Clone, Copy)]
 pub struct Printing {
     pub line: usize,

@@ -6,5 +6,5 @@ use Rattle.printout.proofs.lines.put_end_line.Goals as goal
 
 pub returns : goal.returns
 returns c =
-    let line = end_line_lem _ (c.put-a.ensures.written ⨾ c.put_decimal-b.ensures ⨾ c.put.ensures.written) (search rules) in
+    let line = end_line_lem _ (c.put-p.ensures.written ⨾ c.put_decimal-p.ensures ⨾ c.put.ensures.written) (search rules) in
     record { length = line.0; line = line.1 }

@@ -7,10 +7,10 @@ use Rattle.printout.proofs.lines.put_refused_line.Goals as goal
 pub returns : goal.returns
 returns c =
     let w =
-    c.put-a.ensures.written
-    ⨾ c.put_decimal-b.ensures
-    ⨾ c.put-c.ensures.written
-    ⨾ c.put_decimal-d.ensures
+    c.put-p.ensures.written
+    ⨾ c.put_decimal-p.ensures
+    ⨾ c.put-p-2.ensures.written
+    ⨾ c.put_decimal-p-2.ensures
     ⨾ c.put.ensures.written
     in
     let line = refused_line_lem _ _ (rw c.from.ensures at w) (search rules) in
