@@ -9,7 +9,7 @@ ghost use Rattle.printout.specs.Program.{line_after, records_output};
 ghost use Rattle.printout.specs.Steps.{begun, onwards, ready, record_step, step_of, stepped};
 
 use lines::{LINE_LENGTH, put_emit_line, put_end_line, put_refused_line};
-use records::{Applied, Held};
+use records::Held;
 
 // The most bytes of input that the program takes.
 pub const INPUT_LENGTH: usize = 32768;
@@ -80,18 +80,17 @@ fn step_record(
     let answer = held.apply(&input[session.at..], text);
     match answer {
         Err(refusal) => last(put_refused_line(line, refusal, session.at)),
-        Ok(Applied { length, text: None }) => Printing {
-            line: 0,
-            text: 0,
-            next: Some(on(session, length, 0, held)),
-        },
-        Ok(Applied {
-            length,
-            text: Some(emitted),
-        }) => Printing {
-            line: put_emit_line(line, emitted),
-            text: emitted.length,
-            next: Some(on(session, length, 1, held)),
+        Ok(applied) => match applied.text {
+            None => Printing {
+                line: 0,
+                text: 0,
+                next: Some(on(session, applied.length, 0, held)),
+            },
+            Some(emitted) => Printing {
+                line: put_emit_line(line, emitted),
+                text: emitted.length,
+                next: Some(on(session, applied.length, 1, held)),
+            },
         },
     }
 }
