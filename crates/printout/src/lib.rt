@@ -77,8 +77,7 @@ fn step_record(
     ensures text { text.new ≡ (record_step session input.now text.old).text }
 {
     let mut held = session.held;
-    let answer = held.apply(&input[session.at..], text);
-    match answer {
+    match held.apply(&input[session.at..], text) {
         Err(refusal) => last(put_refused_line(line, refusal, session.at)),
         Ok(applied) => match applied.text {
             None => Printing {
