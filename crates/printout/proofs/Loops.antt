@@ -1,5 +1,5 @@
 -- What a loop of steps uses of each: the parts that it prints lie in their buffers, and what is left grows less.
-use mathlib.Core.Path.{◌≡◌, refl, sym, ◌∙◌}
+use mathlib.Core.Path.{◌≡◌, refl, sym}
 use mathlib.Core.List.{List, [], ◌∷◌, ◌++◌, append_assoc, append-nil}
 use Prim.Native.Nat.{ℕ, ◌-◌, ◌≤◌}
 use native.Mathlib.Omega.{arith}
@@ -64,15 +64,6 @@ pub text_taken : (s : Session) (b out : List ℕ) {p : Printing} {out' : List �
     p ≡ (step_of s b out).answer → out' ≡ (step_of s b out).text → p.text ≡ length (take p.text out')
 text_taken s b out {p} {out'} e g = sym (length-take-le p.text out' (text_fits s b out e g))
 
--- what is given of it: its line, its text, and behind them what is left
-pub step_given : {s : Session} {next : Option Session} (b out l : List ℕ) {p : Printing} {l' out' : List ℕ} → next ≡ Some s → Within b next →
-    p ≡ (step_of s b out).answer → l' ≡ line_after (step_of s b out).line l → out' ≡ (step_of s b out).text →
-    left_for next b ≡ take p.line l' ++ (take p.text out' ++ left_for p.next b)
-step_given {s = s} b out l n w e f g =
-    let t = step_of s b out in
-    let v = rw n at w in
-    rw n (left_step s b out v.0 v.1 ∙ rw (e, f, g, take_at t.line (drop (length t.line) l) t.answer.line (sym (step_fits s b out).0)))
-
 -- and the session behind it can belong to the input
 pub step_within : {s : Session} {next : Option Session} (b out : List ℕ) {p : Printing} → next ≡ Some s → Within b next →
     p ≡ (step_of s b out).answer → Within b p.next
@@ -85,10 +76,19 @@ pub begun_left : (b : List ℕ) {s : Session} → s ≡ begun → left s b ≡ r
 unfolding left
 begun_left b e = rw e (turns (length b - 0) (length b) 0 0 _ b (omega arith) (omega arith))
 
--- Nothing is given at first, and then each part that is accepted.
-module _ {F E : Type 0} (print : Mut F (Bor (List ℕ) × Unit {0}) (Result (Unit {0}) E)) {f : F} {bs : List ℕ} where
+-- Nothing is given at first; then of a step its line, its text and behind them what is left, each part that is accepted.
+module _ {F E : Type 0} {print : Mut F (Bor (List ℕ) × Unit {0}) (Result (Unit {0}) E)} {f : F} {bs : List ℕ} where
   pub gave_none : {rest : List ℕ} → rest ≡ bs → Gave print f bs f rest
   gave_none e = record { parts = []; calls = refl; whole = e }
+
+  pub gave_step : {g : F} {s : Session} {next : Option Session} (b out l : List ℕ) {p : Printing} {l' out' : List ℕ} → Gave print f bs g (left_for next b) →
+      next ≡ Some s → Within b next → p ≡ (step_of s b out).answer → l' ≡ line_after (step_of s b out).line l → out' ≡ (step_of s b out).text →
+      Gave print f bs g (take p.line l' ++ (take p.text out' ++ left_for p.next b))
+  gave_step {g = g} {s = s} b out l k n w i j m =
+      let t = step_of s b out in
+      let v = rw n at w in
+      let u = rw n at k in
+      rw (i, j, m, take_at t.line (drop (length t.line) l) t.answer.line (sym (step_fits s b out).0)) (rw (left_step s b out v.0 v.1) at u)
 
   pub gave_more : {g h : F} {part : Bor (List ℕ)} {rest : List ℕ} → Called print g (part, tt) (Ok tt) h → Gave print f bs g (part.now ++ rest) →
       Gave print f bs h rest
@@ -105,4 +105,4 @@ module _ {F E : Type 0} (print : Mut F (Bor (List ℕ) × Unit {0}) (Result (Uni
       let p = err_from_is_err_and r i in
       rw (p.1, p.2) (record { last = g; part = part.now; more = more; gave = k; after = h; refused = called_at print c refl })
 
-pub ruleset turn = (line_fits, text_fits, line_taken, text_taken, less_left)
+pub ruleset turn = (line_fits, text_fits, line_taken, text_taken, less_left, begun_within, begun_left, gave_none)
