@@ -1,11 +1,11 @@
 -- What applying a record takes, a byte at least and no more than there are; and the length of text that it reports.
-use mathlib.Core.Path.{◌≡◌}
+use mathlib.Core.Path.{◌≡◌, sym, ◌∙◌}
 use mathlib.Core.List.{List}
 use Prim.Native.Nat.{ℕ, ◌+◌, ◌-◌, ◌^◌, ◌≤◌, ◌<◌}
 use native.Mathlib.Omega.{arith}
 use lib.ListN.{length, take, drop, length-drop}
-use lib.Seq.{take_all}
 use Rattle.std.specs.Prelude.{IfSome, Result, Ok, IfOk}
+use Rattle.std.proofs.lemmas.List.{length-take-le}
 use Rattle.values.specs.declared.Refusal.{Refusal}
 use Rattle.records.specs.Applying.{all_held, text_held, apply_answer}
 use Rattle.records.specs.declared.Held.{Held}
@@ -28,13 +28,9 @@ pub sized : (h : Held) (b : List ℕ) (room : ℕ) → Sized h (apply_answer h b
 sized h b room = apply_cases (Sized h) h b room (record { refusal = λ c n. tt; value = λ r t n. tt; text = λ x e w n. rw e })
 
 -- So the place behind the record where a session stands fits its number.
-module _ (s : Session) (b : List ℕ) (room : ℕ) {a : Result Applied Refusal} (e : a ≡ apply_answer s.held (take (length b - s.at) (drop s.at b)) room)
-    (w : s.at < length b) (k : length b < 2 ^ 64) where
-  taken : Takes (length b - s.at) a
-  taken =
-      let l = take_all (length b - s.at) (drop s.at b) (simp length-drop (omega arith)) in
-      let n : length (drop s.at b) ≡ length b - s.at = simp length-drop in
-      rw (e, l, ← n) (takes s.held (drop s.at b) room)
-
-  pub applied_fits : (x : Applied) → a ≡ Ok x → s.at + x.length < 2 ^ 64
-  applied_fits x f = let t = rw f at taken in omega (arith, t.1)
+pub applied_fits : (s : Session) (b : List ℕ) (room : ℕ) {a : Result Applied Refusal} (x : Applied) →
+    a ≡ apply_answer s.held (take (length b - s.at) (drop s.at b)) room → a ≡ Ok x → s.at < length b → length b < 2 ^ 64 → s.at + x.length < 2 ^ 64
+applied_fits s b room x e f w k =
+    let n = length b - s.at in
+    let t = rw (sym e ∙ f) at (takes s.held (take n (drop s.at b)) room) in
+    omega (arith, t.1, length-take-le n (drop s.at b) (simp length-drop (omega arith)))
