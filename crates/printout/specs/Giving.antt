@@ -4,7 +4,7 @@ use Rattle.std.specs.Borrow.{Bor}
 use Rattle.std.specs.Fn.{Mut, CalledAt}
 use Rattle.std.specs.List.{FoldsTo, concat}
 
--- Calls took the closure from f to g, one behind another, and accepted each its part. The parts, and rest behind them, are bs.
+-- Calls took the closure from f to g, one behind another, and each accepted its part. The parts, and rest behind them, are bs.
 pub record Gave {F E : Type 0} (print : Mut F (Bor (List ℕ) × Unit {0}) (Result (Unit {0}) E)) (f : F) (bs : List ℕ) (g : F) (rest : List ℕ) : Type 0 where
   pub parts : List (List ℕ)
   pub calls : FoldsTo (λ p x q. CalledAt print p x (Ok tt) q) f parts g

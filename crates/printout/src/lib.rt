@@ -123,7 +123,7 @@ pub fn step(
     step_record(session, input, line, text)
 }
 
-// Gives what is printed for the input to print, the line and the text of each step, up to the first that it refuses.
+// Hands what is printed for the input to a closure, the line and then the text of each step, up to the first part that it refuses.
 #[tactic(auto, using(crate::proofs::Loops::turn))]
 pub fn print_with<E: Drop, F: FnMut(&[u8]) -> Result<(), E>>(
     input: &[u8],

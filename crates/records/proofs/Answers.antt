@@ -79,11 +79,8 @@ module _ (x : Reading) (h : Held) (b : List ℕ) (room : ℕ) (e : Ok x ≡ read
   by_kind (rec.State w) f = refl
   by_kind (rec.WideKey k) f = refl
 
-  pub replaced : value_answer x.length ≡ apply_answer h b room
-  replaced = by_kind x.«record» f ∙ ap (λ (a : Result Reading Refusal). apply_read a h room) e
-
   pub replaced_number : 0 ≡ applied_number h b room
-  replaced_number = applied_number_lem h b room replaced
+  replaced_number = applied_number_lem h b room (by_kind x.«record» f ∙ ap (λ (a : Result Reading Refusal). apply_read a h room) e)
 
 -- P of a refusal and P of a text give P of what emission answers.
 

@@ -5,9 +5,6 @@ use Rattle.text.proofs.Laws.{◌⨾◌, same}
 use Rattle.printout.proofs.LineLaws.{emit_line_lem, next_number}
 use Rattle.printout.proofs.lines.put_emit_line.Goals as goal
 
-pub loop-n-init : goal.loop-n-init
-loop-n-init c = c.put-p.ensures.written
-
 pub loop-n-preserved : goal.loop-n-preserved
 loop-n-preserved c = next_number (lit "emit ") _ c.loop-n-test.true c.loop-n.invariant (c.put_decimal-p.ensures ⨾ c.put-p-in-loop-n.ensures.written)
 
