@@ -118,7 +118,8 @@ module _ (colour alpha : ℕ) where
       next_fits i s h = go (bump s)
         where
           go : (b : Bool)
-              → 275 + cond b spare line + gain (cond b (Some (record { stage = i; textured = textured s; luminance = luminance s })) None) + most (suc i) ≤ most i
+              → 275 + cond b spare line + gain (cond b (Some (record { stage = i; textured = textured s; luminance = luminance s })) None)
+              + most (suc i) ≤ most i
           go true = bump-fits i h
           go false = omega (arith, line-fits i h)
 

@@ -125,12 +125,14 @@ unfolding printed answered_step
 answered_left (Ok x) h s b out z = go x.text z
   where
     go : (e : Option Emitted) → IfSome e (λ e. e.length ≡ length (text_held (all_held s.held))) →
-        text_printed e s.held (λ more. left (onwards s x.length more h) b) ≡ prints (text_step e x.length h s out) (left_for (text_step e x.length h s out).answer.next b)
+        text_printed e s.held (λ more. left (onwards s x.length more h) b)
+        ≡ prints (text_step e x.length h s out) (left_for (text_step e x.length h s out).answer.next b)
     go None z = refl
     go (Some e) z = rw (take_at (text_held (all_held s.held)) _ e.length (sym z))
 answered_left (Err c) h s b out z = sym (append-nil _)
 
-pub left_step : (s : Session) (b out : List ℕ) → s.at ≤ length b → s.texts ≤ s.at → left s b ≡ prints (step_of s b out) (left_for (step_of s b out).answer.next b)
+pub left_step : (s : Session) (b out : List ℕ) → s.at ≤ length b → s.texts ≤ s.at
+    → left s b ≡ prints (step_of s b out) (left_for (step_of s b out).answer.next b)
 unfolding step_of
 left_step s b out w t = rw (le-leb _ _ w, le-leb _ _ t) (go (eqb s.at (length b)) refl)
   where
