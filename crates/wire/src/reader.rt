@@ -118,9 +118,11 @@ pub fn entry_from_body(body: &[u8]) -> Entry
     requires { body_length Kind.Entry ≤ length body.now }
     ensures { result ≡ entry_from_body body.now }
 {
-    let mut name = [0u8; 32];
-    name.copy_from_slice(&body[1..33]);
-    Entry { len: body[0], name }
+    let name = body[1..].first_chunk::<32>().unwrap();
+    Entry {
+        len: body[0],
+        name: *name,
+    }
 }
 
 // The value's four bytes have the low one first.
