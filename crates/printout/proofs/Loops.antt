@@ -1,7 +1,7 @@
--- What a loop of steps uses of each: the parts that it prints lie in their buffers, and what is left grows less.
+-- What a loop of steps uses of each: the parts that it prints lie in their buffers, and what was given of them and what is left are the output.
 use mathlib.Core.Path.{◌≡◌, refl, sym}
 use mathlib.Core.List.{List, [], ◌∷◌, ◌++◌, append_assoc, append-nil}
-use Prim.Native.Nat.{ℕ, ◌-◌, ◌≤◌}
+use Prim.Native.Nat.{ℕ, ◌≤◌}
 use native.Mathlib.Omega.{arith}
 use lib.Dec.{eqb}
 use lib.ListN.{length, take, drop, length-append}
@@ -20,12 +20,12 @@ use Rattle.records.specs.Applying.{all_held, text_held, apply_answer, held_after
 use Rattle.records.specs.declared.Held.{Held}
 use Rattle.records.specs.declared.Applied.{Applied}
 use Rattle.printout.specs.Giving.{Gave, GaveUntil}
-use Rattle.printout.specs.Program.{line_after, text_room, records_output}
-use Rattle.printout.specs.Steps.{Step, begun, text_step, answered_step, ready, step_of}
+use Rattle.printout.specs.Program.{line_after, text_room}
+use Rattle.printout.specs.Steps.{Step, text_step, answered_step, ready, step_of}
 use Rattle.printout.specs.declared.Session.{Session}
 use Rattle.printout.specs.declared.Printing.{Printing}
 use Rattle.printout.proofs.Taking.{Sized, sized}
-use Rattle.printout.proofs.Printed.{less_left, Within, left, left_for, left_step, within_next, onward, turns}
+use Rattle.printout.proofs.Printed.{less_left, left_for, left_step, Within, begun_left, begun_within}
 
 abbrev Fits : Step → Type 0
 Fits t = (t.answer.line ≡ length t.line) × (t.answer.text ≤ length t.text)
@@ -63,18 +63,6 @@ line_taken s b out l {p} {l'} e f = sym (length-take-le p.line l' (line_fits s b
 pub text_taken : (s : Session) (b out : List ℕ) {p : Printing} {out' : List ℕ} →
     p ≡ (step_of s b out).answer → out' ≡ (step_of s b out).text → p.text ≡ length (take p.text out')
 text_taken s b out {p} {out'} e g = sym (length-take-le p.text out' (text_fits s b out e g))
-
--- and the session behind it can belong to the input
-pub step_within : {s : Session} {next : Option Session} (b out : List ℕ) {p : Printing} → next ≡ Some s → Within b next →
-    p ≡ (step_of s b out).answer → Within b p.next
-step_within {s = s} b out n w e = let v = rw n at w in rw e (within_next s b (step_of s b out).answer.next v.1 (onward s b out))
-
-pub begun_within : (b : List ℕ) {s : Session} → s ≡ begun → Within b (Some s)
-begun_within b e = rw e (omega arith, omega arith)
-
-pub begun_left : (b : List ℕ) {s : Session} → s ≡ begun → left s b ≡ records_output b
-unfolding left
-begun_left b e = rw e (turns (length b - 0) (length b) 0 0 _ b (omega arith) (omega arith))
 
 -- Nothing is given at first; then of a step its line, its text and behind them what is left, each part that is accepted.
 module _ {F E : Type 0} {print : Mut F (Bor (List ℕ) × Unit {0}) (Result (Unit {0}) E)} {f : F} {bs : List ℕ} where

@@ -15,7 +15,7 @@ use Rattle.values.specs.declared.Refusal.{Refusal}
 use Rattle.records.specs.Applying.{all_held, text_held, apply_answer, held_after}
 use Rattle.records.specs.declared.Held.{Held}
 use Rattle.records.specs.declared.Applied.{Applied}
-use Rattle.printout.specs.Program.{input_room, text_room, end_line, text_printed, printed, printed_from, program_output}
+use Rattle.printout.specs.Program.{input_room, text_room, end_line, text_printed, printed, printed_from, records_output, program_output}
 use Rattle.printout.specs.Steps.{Step, begun, onwards, last_step, text_step, answered_step, record_step, ready, step_of}
 use Rattle.printout.specs.declared.Session.{Session}
 use Rattle.printout.specs.declared.Printing.{Printing}
@@ -35,7 +35,7 @@ answered_onward (Ok x) h s b out t = go x.text t.0 (simp length-drop at t.1)
     go (Some e) k l = (omega arith, (omega arith, λ q. omega arith))
 answered_onward (Err c) h s b out t = tt
 
-pub onward : (s : Session) (b out : List ℕ) → Onward s b (step_of s b out).answer.next
+onward : (s : Session) (b out : List ℕ) → Onward s b (step_of s b out).answer.next
 unfolding step_of
 onward s b out =
     let On : Step → Type 0 = λ t. Onward s b t.answer.next in
@@ -75,7 +75,7 @@ printed_same (Ok x) l p h f g t k = text_same x.text h _ _ (λ more. k x.length 
 printed_same (Err c) l p h f g t k = refl
 
 -- as many turns as bytes are enough
-pub turns : (t u p n : ℕ) (h : Held) (b : List ℕ) → length b ≤ t → length b ≤ u → printed_from t p n h b ≡ printed_from u p n h b
+turns : (t u p n : ℕ) (h : Held) (b : List ℕ) → length b ≤ t → length b ≤ u → printed_from t p n h b ≡ printed_from u p n h b
 unfolding printed_from
 turns zero zero p n h b k l = refl
 turns zero (suc u) p n h [] k l = refl
@@ -155,13 +155,20 @@ printed_by zero next b out = []
 printed_by (suc n) None b out = []
 printed_by (suc n) (Some s) b out = prints (step_of s b out) (printed_by n (step_of s b out).answer.next b (step_of s b out).text)
 
--- a session that can belong to the input
+-- A session that can belong to the input: the one at the beginning, and the next one of each.
 abbrev pub Within : List ℕ → Option Session → Type 0
 Within b next = IfSome next (λ s. (s.at ≤ length b) × (s.texts ≤ s.at))
 
-pub within_next : (s : Session) (b : List ℕ) (next : Option Session) → s.texts ≤ s.at → Onward s b next → Within b next
-within_next s b None t o = tt
-within_next s b (Some n) t o = (o.1.0, o.1.1 t)
+pub begun_within : (b : List ℕ) {s : Session} → s ≡ begun → Within b (Some s)
+begun_within b e = rw e (omega arith, omega arith)
+
+pub step_within : {s : Session} {next : Option Session} (b out : List ℕ) {p : Printing} → next ≡ Some s → Within b next →
+    p ≡ (step_of s b out).answer → Within b p.next
+step_within {s = s} b out n w e = let v = rw n at w in rw e (go (step_of s b out).answer.next v.1 (onward s b out))
+  where
+    go : (next : Option Session) → s.texts ≤ s.at → Onward s b next → Within b next
+    go None t o = tt
+    go (Some n) t o = (o.1.0, o.1.1 t)
 
 -- as many steps as there are bytes left, and one more, are enough
 steps_left : (n : ℕ) (b : List ℕ) (next : Option Session) (out : List ℕ) → Within b next → still_left next b ≤ n → printed_by n next b out ≡ left_for next b
@@ -172,12 +179,15 @@ steps_left (suc n) b None out w k = refl
 steps_left (suc n) b (Some s) out w k =
     let t = step_of s b out in
     let less = less_left s b out {p = t.answer} refl in
-    ap (prints t) (steps_left n b t.answer.next t.text (within_next s b t.answer.next w.1 (onward s b out)) (omega arith))
+    ap (prints t) (steps_left n b t.answer.next t.text (step_within b out {p = t.answer} refl w refl) (omega arith))
     ∙ sym (left_step s b out w.0 w.1)
+
+pub begun_left : (b : List ℕ) {s : Session} → s ≡ begun → left s b ≡ records_output b
+unfolding left
+begun_left b e = rw e (turns (length b - 0) (length b) 0 0 _ b (omega arith) (omega arith))
 
 -- The steps from the beginning on print the program's output, for an input that its buffer takes.
 pub program : (b out : List ℕ) → length b ≤ input_room → printed_by (suc (length b)) (Some begun) b out ≡ program_output b
-unfolding program_output left
+unfolding program_output
 program b out h =
-    steps_left (suc (length b)) b (Some begun) out (omega arith, omega arith) (omega arith)
-    ∙ rw (le-ltb input_room (length b) h) (turns (length b - 0) (length b) 0 0 _ b (omega arith) (omega arith))
+    steps_left (suc (length b)) b (Some begun) out (begun_within b refl) (omega arith) ∙ begun_left b refl ∙ rw (le-ltb input_room (length b) h)

@@ -1,6 +1,7 @@
 -- Each part is given behind those before it, and the first that is refused is the last.
 use Rattle.std.proofs.Common.{of_calls}
-use Rattle.printout.proofs.Loops.{gave_step, gave_more, gave_until, step_within}
+use Rattle.printout.proofs.Printed.{step_within}
+use Rattle.printout.proofs.Loops.{gave_step, gave_more, gave_until}
 use Rattle.printout.proofs.print_with.Goals as goal
 
 pub returns-in_err-print-clause-refused : goal.returns-in_err-print-clause-refused
