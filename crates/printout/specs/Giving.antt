@@ -15,7 +15,7 @@ pub record GaveAll {F E : Type 0} (print : Mut F (Bor (List ℕ) × Unit {0}) (R
   pub last : F
   pub gave : Gave print f bs last []
 
--- the part behind those that were accepted was refused with e, and it was the last
+-- the part behind those that were accepted was refused with e
 pub record GaveUntil {F E : Type 0} (print : Mut F (Bor (List ℕ) × Unit {0}) (Result (Unit {0}) E)) (f : F) (bs : List ℕ) (e : E) : Type 0 where
   pub last : F
   pub part : List ℕ
