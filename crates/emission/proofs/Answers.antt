@@ -109,7 +109,6 @@ module _ (k : Key) (v : Variant) (e : Entry) where
 
 -- The first cause that holds is the one that is answered; of admitted values the room alone decides.
 module _ (k : Key) (v : Variant) (e : Entry) (room : ℕ) where
-
   pub no_room : Admitted k v e → room < length (text_of k v e) → Err NoRoom ≡ answer_of k v e room
   unfolding answer_of
   no_room h l = rw (h.stage_flags, h.variant_flags, h.entry_name, h.entry_word, lt-ltb _ _ l)

@@ -12,9 +12,7 @@ ghost use Rattle.yuzuknoll.specs.Applying.{result_with, text_with};
 
 use crate::alter::alter_held;
 use crate::emit::{RESULT_LENGTH, emit_values, read_key, rewrite_key};
-use crate::parts::{
-    HELD_LENGTH, entry_in, holds_all, is_wide, key_body, place_of, variant_in,
-};
+use crate::parts::{HELD_LENGTH, entry_in, holds_all, is_wide, key_body, place_of, variant_in};
 use crate::read::record_numbers;
 use emission::emittable::Emittable;
 use inspection::causes::record_kind;
