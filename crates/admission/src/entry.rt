@@ -5,9 +5,9 @@ ghost use Rattle.admission.specs.Pass.{possible_in, right, started, pass_stepped
 
 use crate::{continues_name, starts_name};
 use std::hint::select_unpredictable;
-use values::Entry;
+use values::{Entry, NAME_LENGTH};
 
-const NAME_BYTES: u8 = 32;
+const NAME_BYTES: u8 = NAME_LENGTH as u8;
 
 // Where a pass over an entry's body stands: how many bytes were taken, the length byte, and 1 once a byte was wrong. Callers keep the three numbers
 // between steps, and may hand in any: so `wrong` is a number too, and what it was is what a right byte leaves.

@@ -10,7 +10,7 @@ use Rattle.cascade.specs.Reading.{keeps}
 use Rattle.values.specs.declared.Combiner.{Combiner}
 
 -- where a fact is one of no argument, it is one of none that counts
-none_counted : (f : ℕ → Bool) (first second : Bool) (c : Combiner) → some f c ≡ false → some_counted f first second c ≡ false
+pub none_counted : (f : ℕ → Bool) (first second : Bool) (c : Combiner) → some f c ≡ false → some_counted f first second c ≡ false
 none_counted f first second c e =
     let n = or_parts (f c.arg1) (f c.arg2 || third f c) e in
     let m = or_parts (f c.arg2) (third f c) n.1 in

@@ -22,7 +22,7 @@ use Rattle.cascade.specs.Keys.{textured, active, active_count, bump, stages_wher
 use Rattle.cascade.specs.Reading.{live, lined, marked, reads_texel, reads_bump_env}
 use Rattle.cascade.specs.Warnings.{warned_stages}
 use Rattle.cascade.specs.Survey.{marks_of, survey_of}
-use Rattle.cascade.specs.Walks.{warns, in_front, rows_by, facts_of, add_fact, marked_by, marks_from, add_mark}
+use Rattle.cascade.specs.Walks.{warns, mask_with, rows_by, facts_of, add_fact, marked_by, marks_from, add_mark}
 use Rattle.values.specs.declared.Stage.{Stage}
 use Rattle.cascade.specs.declared.walks.Facts.{Facts}
 use Rattle.cascade.specs.declared.walks.Marks.{Marks}
@@ -54,10 +54,10 @@ marks_small alive [] = omega arith
 marks_small alive (s ∷ r) = bit_small (marked alive (s ∷ r)) (marks_of alive r) (length r) (marks_small alive r)
 
 -- the mask of at most seven stages has room for one more in front
-room : (b : Bool) (m n : ℕ) → m < 2 ^ n → n < 8 → in_front b m ≡ cond b 1 0 + 2 * m
+room : (b : Bool) (m n : ℕ) → m < 2 ^ n → n < 8 → mask_with b m ≡ cond b 1 0 + 2 * m
 room b m n h l = let q : 2 ^ n ≤ 2 ^ 7 = pow-le-pow_right (omega arith) {i = n} {j = 7} (omega arith) in go b (omega arith)
   where
-    go : (b : Bool) → m < 128 → in_front b m ≡ cond b 1 0 + 2 * m
+    go : (b : Bool) → m < 128 → mask_with b m ≡ cond b 1 0 + 2 * m
     go true k = omega arith
     go false k = omega arith
 

@@ -30,8 +30,8 @@ unfoldable pub warns : Cause → Stage → Bool
 warns c s = applies (gives c) s
 
 -- the mask of the stages behind one, with that one's bit in front of theirs, as a byte
-abbrev pub in_front : Bool → ℕ → ℕ
-in_front here behind = (cond here 1 0 + 2 * behind) % 256
+abbrev pub mask_with : Bool → ℕ → ℕ
+mask_with here behind = (cond here 1 0 + 2 * behind) % 256
 
 -- the rows with one stage more in front, by whether it reads its constant or names the factor
 abbrev pub rows_by : Bool → Bool → ℕ → ℕ
@@ -56,14 +56,14 @@ facts_of ss =
 abbrev pub add_fact : Stage → Facts → Facts
 add_fact s f =
     record {
-      mask = in_front (textured s) f.mask;
+      mask = mask_with (textured s) f.mask;
       rows = rows_by (reads_constant s) (names_factor s) f.rows;
       live = (not (bump s) && reads_temp s) || f.live;
       warnings =
           record {
-            op = in_front (warns op_cause s) f.warnings.op;
-            selector = in_front (warns selector_cause s) f.warnings.selector;
-            modifier = in_front (warns modifier_cause s) f.warnings.modifier;
+            op = mask_with (warns op_cause s) f.warnings.op;
+            selector = mask_with (warns selector_cause s) f.warnings.selector;
+            modifier = mask_with (warns modifier_cause s) f.warnings.modifier;
           };
     }
 
@@ -80,6 +80,6 @@ abbrev pub add_mark : Bool → Stage → Marks → Marks
 add_mark alive s m =
     record {
       next = marked_by alive s m.next;
-      marks = in_front (marked_by alive s m.next) m.marks;
+      marks = mask_with (marked_by alive s m.next) m.marks;
       bump_env = (bump s && (m.next && (textured s || luminance s))) || m.bump_env;
     }

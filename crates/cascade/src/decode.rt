@@ -1,4 +1,6 @@
 //! A stage decoded: the expressions that it writes.
+//!
+//! A combiner and whether its stage has a texture stay two parameters, as in `keys`.
 ghost use Rattle.std.specs.Prelude.{◌≡◌};
 ghost use Rattle.cascade.specs.Stages.{current_arg, fallback, arg0_of, combined, expression_of, alpha_of, decode};
 

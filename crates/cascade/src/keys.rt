@@ -1,16 +1,15 @@
 //! What a stage and its combiners say by themselves: textures, reads, fallback, bump, constants; and the count of active stages.
 //!
-//! A rule that rarely applies first asks for the rare argument. Ops and arguments stay bytes: any byte is admitted, and each rule compares one with a
-//! code or two, where an enum would first be made by a match of its own.
+//! A rule that rarely applies first asks for the rare argument. Ops and arguments stay bytes: each rule compares one with a code or two, where an enum
+//! would first be made by a match of its own, and `Op::Other` is one case for ops that these rules tell apart. A combiner and whether its stage has a
+//! texture stay two parameters: both combiners of a stage share the second, which a struct would hold twice.
 ghost use Rattle.std.specs.Prelude.{◌≡◌, ℕ, Bool};
 ghost use Rattle.cascade.specs.Keys.{textured, to_temp, active_count, reads_first, reads_second, selects, some, some_counted, reads, falls_back, is_bump_op, bump, alpha_from_colour, reads_constant, blends_by_factor, names_factor};
 ghost use Rattle.cascade.specs.Walks.{Tests};
 
 use combiners::codes::*;
 use combiners::ops::three_operands;
-use values::{Combiner, Key, Stage};
-
-const STAGES: usize = 8;
+use values::{Combiner, Key, STAGES, Stage};
 
 // The flags of a stage.
 const HAS_TEXTURE: u8 = 1;
@@ -86,12 +85,19 @@ pub(crate) fn some<F: Fn(u8) -> bool>(c: Combiner, test: F) -> bool
     some_counted(c, true, true, test)
 }
 
+// Some argument that counts selects the source. Few do, so all are asked first.
+pub(crate) fn some_selects(selector: u8, c: Combiner, first: bool, second: bool) -> bool
+    ensures { result ≡ some_counted (selects selector) first second c }
+{
+    let selected = |arg| selects(selector, arg);
+    some(c, selected) && some_counted(c, first, second, selected)
+}
+
 #[tactic(auto, unfolding(crate::specs::Keys::reads))]
 fn reads(selector: u8, c: Combiner) -> bool
     ensures { result ≡ reads selector c }
 {
-    let selected = |arg| selects(selector, arg);
-    some(c, selected) && some_counted(c, reads_first(c.op), reads_second(c.op), selected)
+    some_selects(selector, c, reads_first(c.op), reads_second(c.op))
 }
 
 #[tactic(auto, unfolding(crate::specs::Keys::falls_back))]

@@ -1,14 +1,12 @@
 //! The reading rule: what the expressions of a stage read, by its key alone.
 //!
-//! A combiner and whether its stage has a texture stay two parameters: both combiners of a stage share the second.
+//! A combiner and whether its stage has a texture stay two parameters, as in `keys`.
 ghost use Rattle.std.specs.Prelude.{◌≡◌, Bool};
 ghost use Rattle.combiners.specs.Combiners.{keeps_first, keeps_second, reads_own_texel};
 ghost use Rattle.values.specs.declared.Combiner.{Combiner};
 ghost use Rattle.cascade.specs.Reading.{keeps, reads_temp_by, reads_texel_by, alpha_written, some_expression, reads_temp, reads_texel, lined, luminance};
 
-use crate::keys::{
-    alpha_from_colour, falls_back, is_bump_op, selects, some, some_counted, textured, to_temp,
-};
+use crate::keys::{alpha_from_colour, falls_back, is_bump_op, some_selects, textured, to_temp};
 use combiners::codes::*;
 use combiners::ops::has_text;
 use values::{Combiner, Stage};
@@ -29,14 +27,12 @@ fn keeps_second(textured: bool, op: u8) -> bool
 fn keeps(selector: u8, textured: bool, c: Combiner) -> bool
     ensures { result ≡ keeps selector textured c }
 {
-    let selected = |arg| selects(selector, arg);
-    some(c, selected)
-        && some_counted(
-            c,
-            keeps_first(textured, c.op),
-            keeps_second(textured, c.op),
-            selected,
-        )
+    some_selects(
+        selector,
+        c,
+        keeps_first(textured, c.op),
+        keeps_second(textured, c.op),
+    )
 }
 
 fn reads_own_texel(textured: bool, op: u8) -> bool

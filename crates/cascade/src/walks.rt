@@ -1,7 +1,7 @@
 //! What a key says before any byte of text. Each walk goes from the last active stage to the first, as the rules speak of the stages behind one.
 ghost use Rattle.std.specs.Prelude.{◌≤◌, ◌≡◌, length};
 ghost use Rattle.cascade.specs.Survey.{survey_of};
-ghost use Rattle.cascade.specs.Walks.{facts_of, add_fact, marks_from, add_mark, in_front, rows_by};
+ghost use Rattle.cascade.specs.Walks.{facts_of, add_fact, marks_from, add_mark, mask_with, rows_by};
 
 use crate::Survey;
 use crate::keys::{
@@ -30,8 +30,8 @@ struct Marks {
 }
 
 // The mask of the stages behind one, with that one's bit in front of theirs. A byte has room for eight.
-fn in_front(here: bool, behind: u8) -> u8
-    ensures { result ≡ in_front here behind }
+fn mask_with(here: bool, behind: u8) -> u8
+    ensures { result ≡ mask_with here behind }
 {
     u8::from(here) + (behind << 1)
 }
@@ -52,8 +52,8 @@ fn rows_by(later: u8, constant: bool, factor: bool) -> u8
 fn add_fact(f: Facts, s: Stage) -> Facts
     ensures { result ≡ add_fact s f }
 {
-    let mask = in_front(textured(s), f.mask);
-    let op = in_front(warns_op(s), f.warnings.op);
+    let mask = mask_with(textured(s), f.mask);
+    let op = mask_with(warns_op(s), f.warnings.op);
     if is_plain(s) {
         return Facts {
             mask,
@@ -61,8 +61,8 @@ fn add_fact(f: Facts, s: Stage) -> Facts
             live: f.live,
             warnings: Warnings {
                 op,
-                selector: in_front(false, f.warnings.selector),
-                modifier: in_front(false, f.warnings.modifier),
+                selector: mask_with(false, f.warnings.selector),
+                modifier: mask_with(false, f.warnings.modifier),
             },
         };
     }
@@ -72,8 +72,8 @@ fn add_fact(f: Facts, s: Stage) -> Facts
         live: (!is_bump(s) & reads_temp(s)) | f.live,
         warnings: Warnings {
             op,
-            selector: in_front(warns_selector(s), f.warnings.selector),
-            modifier: in_front(warns_modifier(s), f.warnings.modifier),
+            selector: mask_with(warns_selector(s), f.warnings.selector),
+            modifier: mask_with(warns_modifier(s), f.warnings.modifier),
         },
     }
 }
@@ -97,7 +97,7 @@ fn add_mark(m: Marks, s: Stage, alive: bool) -> Marks
     let env = (bump & (m.next & (t | is_luminance(s)))) | m.bump_env;
     Marks {
         next: here,
-        marks: in_front(here, m.marks),
+        marks: mask_with(here, m.marks),
         bump_env: env,
     }
 }

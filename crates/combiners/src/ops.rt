@@ -33,7 +33,10 @@ impl From<u8> for Op {
             D3DTOP_DOTPRODUCT3 => Op::DotProduct3,
             D3DTOP_MULTIPLYADD => Op::MultiplyAdd,
             D3DTOP_LERP => Op::Lerp,
-            _ => Op::Other,
+            0..=D3DTOP_DISABLE
+            | D3DTOP_PREMODULATE
+            | D3DTOP_BUMPENVMAP..=D3DTOP_BUMPENVMAPLUMINANCE
+            | 27..=255 => Op::Other,
         }
     }
 }

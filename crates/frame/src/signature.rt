@@ -1,5 +1,4 @@
 //! The parameters of the function, and what its body begins with.
-ghost use Rattle.std.specs.Prelude.{◌≤◌, length};
 ghost use Rattle.text.specs.Text.{bytes, lit, when, ◌⊕◌};
 ghost use Rattle.text.specs.Marks.{numbered};
 ghost use Rattle.text.specs.Buffer.{Wrote};
@@ -12,7 +11,7 @@ use cascade::surveyed::Surveyed;
 use shader::TextureType;
 use text::{put, put_either, put_when};
 use values::staged::put_staged;
-use values::{Stage, StageIndex, Variant};
+use values::{StageIndex, Variant};
 use variants::bits::{Flag, fogged, has, tested};
 use variants::kinds::texture_type_of;
 
@@ -90,13 +89,12 @@ pub fn put_locals(out: &mut [u8], at: usize, alive: bool) -> usize
 }
 
 // A texture and a sampler for each stage with a texture.
-fn put_samplers(out: &mut [u8], at: usize, stages: &[Stage], v: Variant) -> usize
-    requires { length stages.now ≤ 8 }
-    ensures { Wrote out.old at out.new result (samplers_text v 0 stages.now) }
+fn put_samplers(out: &mut [u8], at: usize, s: &Surveyed, v: Variant) -> usize
+    ensures { Wrote out.old at out.new result (samplers_text v 0 (active s.now.key.stages)) }
 {
     let mut p = at;
-    for (i, s) in stages.iter().enumerate() {
-        p = put_sampler(out, p, textured(*s), v, StageIndex::new(i as u8));
+    for (i, stage) in s.active().iter().enumerate() {
+        p = put_sampler(out, p, textured(*stage), v, StageIndex::new(i as u8));
     }
     p
 }
@@ -129,6 +127,6 @@ pub fn put_parameters(out: &mut [u8], at: usize, s: &Surveyed, v: Variant) -> us
         has(v, Flag::LodBias),
         b",\n    constant float4 *lod_bias [[buffer(11)]]",
     );
-    p = put_samplers(out, p, s.active(), v);
+    p = put_samplers(out, p, s, v);
     put(out, p, b"\n) {\n")
 }

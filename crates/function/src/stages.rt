@@ -49,7 +49,7 @@ fn sampling_of(v: Variant, projected: u8, i: StageIndex) -> Sampling
     }
 }
 
-// The lookup of stage i, where it is marked, and one more lookup counted.
+// The lookup of stage i, where it is marked, and one more lookup counted. Only then its sampling is made, so what it is made of stands among the parameters.
 fn put_marked(
     out: &mut [u8],
     from: Place,

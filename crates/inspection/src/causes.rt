@@ -10,12 +10,12 @@ ghost use Rattle.inspection.specs.Kinds.{kind_read};
 
 use admission::{UNUSED_STAGE_FLAG, UNUSED_VARIANT_FLAG, check_entry};
 use states::check;
-use values::Refusal;
+use values::{Refusal, STAGES};
 use wire::reader::{entry_from_body, specular_at, stage_size, state_from_body};
-use wire::{Kind, body_length, key_kind};
+use wire::{Kind, VARIANT_BODY, body_length, key_kind};
 
 // Where a variant's body has its flags.
-const VARIANT_FLAGS_AT: usize = 18;
+const VARIANT_FLAGS_AT: usize = VARIANT_BODY - 1;
 
 // Whether the body of a kind is whole. Each kind asks by itself, so that one jump tells the kinds apart.
 fn check_whole(kind: Kind, body: &[u8]) -> Result<(), Refusal>
@@ -34,7 +34,7 @@ fn key_flags_bad(body: &[u8], wide: bool) -> bool
 {
     let size = stage_size(wide);
     let mut bad = false;
-    for i in 0..8 {
+    for i in 0..STAGES {
         bad |= UNUSED_STAGE_FLAG <= body[size * i + size - 1];
     }
     bad

@@ -26,7 +26,7 @@ pub struct Session {
 }
 
 // What a step prints: the front of the line, then the front of the text, each of this length; and the session that prints what is behind it, if
-// anything is. Lengths and not slices: a contract gives each lent byte, and a buffer that is handed on in part has no value behind the call.
+// anything is. Tried: slices of the two buffers. Then no clause can say what the buffers hold afterwards, since a part of each is still lent out.
 #[derive(Clone, Copy)]
 pub struct Printing {
     pub line: usize,
@@ -44,7 +44,7 @@ fn last(line: usize) -> Printing
     ensures { result ≡ stepped line 0 None }
 {
     Printing {
-        line: line,
+        line,
         text: 0,
         next: None,
     }

@@ -112,6 +112,7 @@ text_held (Some x) = text_of x.key x.variant x.entry
 abbrev pub text_in : Option Values → List ℕ → List ℕ
 text_in x out = in_front (text_held x) out
 
+-- what the buffer for text holds afterwards: the text where one was written, else what it held
 abbrev pub text_after : Result Applied Refusal → Held → List ℕ → List ℕ
 text_after (Ok x) h out = cond (is_some x.text) (text_in (all_held h) out) out
 text_after (Err c) h out = out

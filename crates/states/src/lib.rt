@@ -12,14 +12,14 @@ mod state;
 
 use combiners::codes::*;
 use state::StageState;
-use values::{Combiner, Key, Refusal, Stage, StateWrite};
+use values::{Combiner, Key, Refusal, STAGES, Stage, StateWrite};
 
-const LAST_STAGE: u8 = 7;
+const LAST_STAGE: u8 = STAGES as u8 - 1;
 
 // What an argument 0 is where nothing has written it.
 pub const DEFAULT_ARG0: u8 = D3DTA_CURRENT;
 
-// The types that only a key of kind 6 has.
+// The types that only a key of kind 6 has. Here and below a type is a number, so that any byte may be asked.
 pub fn sets_arg0(state: u8) -> bool
     ensures { result ≡ sets_arg0 state }
 {
@@ -54,6 +54,7 @@ pub fn check(write: StateWrite) -> Result<(), Refusal>
     Ok(())
 }
 
+// Direct3D's defaults are no zeros, so no `Default` gives them.
 fn default_combiner(op: u8) -> Combiner
     ensures { result ≡ default_combiner op }
 {
@@ -117,6 +118,7 @@ fn wide_stage(s: Stage, wide: bool) -> Stage
     if wide { s } else { seven_bytes(s) }
 }
 
+// Of the shape of cascade's `effective_stages`. One function of both would take the map as a closure, with a clause on it at each call.
 #[tactic(auto, unfolding(crate::specs::States::wide_stages))]
 fn wide_stages(key: Key) -> [Stage; 8]
     ensures { result ≡ wide_stages key }

@@ -1,7 +1,7 @@
 -- The laws of writing: one text behind another is the two joined; a text that fits is written whole; which of two texts; a text's length.
 use Prim.Native.Nat.{ℕ, zero, suc, ◌+◌, ◌/◌, ◌%◌, ◌^◌, ◌<◌, ◌≤◌}
 use mathlib.Core.Bool.{Bool, true, false, cond}
-use mathlib.Core.Path.{◌≡◌, refl, ap, sym, ◌∙◌}
+use mathlib.Core.Path.{◌≡◌, refl, ap, sym, ◌∙◌, subst}
 use mathlib.Core.List.{List, [], ◌∷◌, ◌++◌, append_assoc}
 use mathlib.Core.Logic.{by_cases}
 use native.Mathlib.Omega.{arith}
@@ -90,6 +90,10 @@ pick_true e w = rw e (record { kept = w.kept; fits = w.fits; over = w.over })
 
 pub pick_false : {l l' : List ℕ} {a a' : ℕ} {b : Bool} {s t : Text} → b ≡ false → Wrote l a l' a' t → Wrote l a l' a' (pick b s t)
 pick_false e w = rw e (record { kept = w.kept; fits = w.fits; over = w.over })
+
+-- a text that depends on a test
+pub by_test : {l l' : List ℕ} {a a' : ℕ} {s : Text} (t : Bool → Text) (b c : Bool) → b ≡ c → flat s ≡ flat (t c) → Wrote l a l' a' s → Wrote l a l' a' (t b)
+by_test {l} {l'} {a} {a'} t b c e f w = subst (λ (b : Bool). Wrote l a l' a' (t b)) (sym e) (same f w)
 
 -- a test of a number that is known
 pub eqb_at : (x m n : ℕ) (b : Bool) → x ≡ m → eqb m n ≡ b → eqb x n ≡ b

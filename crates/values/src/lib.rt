@@ -8,8 +8,14 @@ ghost use Rattle.values.specs.Refusals.{answer_number, number_of};
 
 use std::marker::Model;
 
+// How many stages a key has.
+pub const STAGES: usize = 8;
+
+// How many bytes an entry's name has room for.
+pub const NAME_LENGTH: usize = 32;
+
 // An op and its arguments, in Direct3D 9's codes. Only ops of three operands have an argument 0.
-#[derive(Clone, Copy, Default)]
+#[derive(Clone, Copy)]
 pub struct Combiner {
     pub op: u8,
     pub arg1: u8,
@@ -18,7 +24,7 @@ pub struct Combiner {
 }
 
 // A texture stage. Flag bit 0: a texture is bound; bit 1: the result goes to TEMP.
-#[derive(Clone, Copy, Default)]
+#[derive(Clone, Copy)]
 pub struct Stage {
     pub colour: Combiner,
     pub alpha: Combiner,
@@ -28,16 +34,16 @@ pub struct Stage {
 // Bit i of projected is for stage i. A wide key, of record kind 6, has stages of nine bytes, with argument 0 of colour and of alpha; in another, of
 // kind 1 with stages of seven, no op has an argument 0. Its stages hold one that nothing reads: with an `Option`, or an enum of two keys, stages would be
 // of two shapes, where one definition gives the text of both kinds.
-#[derive(Clone, Copy, Default)]
+#[derive(Clone, Copy)]
 pub struct Key {
-    pub stages: [Stage; 8],
+    pub stages: [Stage; STAGES],
     pub specular_add: bool,
     pub projected: u8,
     pub wide: bool,
 }
 
 // The render states beside the key that shape the text. Masks have bit i for stage i.
-#[derive(Clone, Copy, Default)]
+#[derive(Clone, Copy)]
 pub struct Variant {
     pub alpha_func: u8,
     pub fog_mode: u8,
@@ -54,14 +60,14 @@ pub struct Variant {
 }
 
 // The name of the fragment function: its first len bytes, then zeros. Memory is fixed here, as in its record.
-#[derive(Clone, Copy, Default)]
+#[derive(Clone, Copy)]
 pub struct Entry {
     pub len: u8,
-    pub name: [u8; 32],
+    pub name: [u8; NAME_LENGTH],
 }
 
 // A write of a texture stage state: a stage, the state's type by its number, and a value.
-#[derive(Clone, Copy, Default)]
+#[derive(Clone, Copy)]
 pub struct StateWrite {
     pub stage: u8,
     pub state: u8,

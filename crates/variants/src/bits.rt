@@ -7,7 +7,7 @@ ghost use Rattle.variants.specs.Flags.{has};
 use combiners::codes::{D3DCMP_ALWAYS, D3DFOG_NONE};
 use values::Variant;
 
-// Bit i of a mask. A mask has sixteen bits; those behind them are not set.
+// Bit i of a mask. A mask has sixteen bits; those behind them are not set. Any byte may be asked for: a stage's number alone would ask more of callers.
 pub fn bit(mask: u16, i: u8) -> bool
     ensures { result ≡ bit mask i }
 {

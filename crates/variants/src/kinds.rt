@@ -1,4 +1,4 @@
-//! How a stage reads its texture, and the texture's type.
+//! How a stage reads its texture, and the texture's type. As of `bit`, any byte may stand for the stage.
 ghost use Rattle.std.specs.Prelude.{◌≡◌};
 ghost use Rattle.shader.specs.Lookups.{lookup_of, texture_type_of};
 

@@ -58,17 +58,17 @@ pub const KIND_STATE: u8 = Kind::State as u8;
 pub const KIND_WIDE_KEY: u8 = Kind::WideKey as u8;
 
 // How many bytes follow the kind byte.
-const KEY_BODY: usize = 58;
+pub const KEY_BODY: usize = 58;
 
-const VARIANT_BODY: usize = 19;
+pub const VARIANT_BODY: usize = 19;
 
-const ENTRY_BODY: usize = 33;
+pub const ENTRY_BODY: usize = 33;
 
 const EMIT_BODY: usize = 0;
 
 const STATE_BODY: usize = 6;
 
-const WIDE_KEY_BODY: usize = 74;
+pub const WIDE_KEY_BODY: usize = 74;
 
 impl From<Kind> for u8 {
     ghost from_gives = { λ kind byte. byte ≡ kind_byte kind };

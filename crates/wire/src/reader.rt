@@ -1,7 +1,8 @@
 //! The reader: the record at the front of some bytes, or why there is none.
 //!
 //! A body is a slice, whose least length a `requires` names: it may go on behind that, and an array would ask more of callers. Nor could a function for
-//! keys of both kinds name an array, since no const argument is computed.
+//! keys of both kinds name an array, since no const argument is computed. A body and its kind stay two parameters of `record_from_body` and `specular_in`:
+//! the two are `read_as` taken apart, which has asked for the length.
 ghost use Rattle.std.specs.Prelude.{◌+◌, ◌*◌, ◌≤◌, ◌<◌, ◌≡◌, drop, length};
 ghost use Rattle.values.specs.Refusals.{answer_number};
 ghost use Rattle.wire.specs.Bodies.{body_length, entry_from_body, key_from_body, key_kind, mask_at, record_from_body, specular_at};
@@ -11,7 +12,7 @@ ghost use Rattle.wire.specs.Reading.{read_as, read_record, record_number, specul
 use crate::checks::check_record;
 use crate::{Kind, Reading, Record, body_length, record_length};
 use states::DEFAULT_ARG0;
-use values::{Combiner, Entry, Key, Refusal, Stage, StateWrite, Variant};
+use values::{Combiner, Entry, Key, NAME_LENGTH, Refusal, STAGES, Stage, StateWrite, Variant};
 
 // How many bytes a stage has in a key of each kind.
 pub const STAGE_BYTES: usize = 7;
@@ -19,9 +20,9 @@ pub const STAGE_BYTES: usize = 7;
 const WIDE_STAGE_BYTES: usize = 9;
 
 // Where specular add stands in a key's body, behind the eight stages; the projected mask stands behind it.
-pub const SPECULAR_AT: usize = 8 * STAGE_BYTES;
+pub const SPECULAR_AT: usize = STAGES * STAGE_BYTES;
 
-const WIDE_SPECULAR_AT: usize = 8 * WIDE_STAGE_BYTES;
+const WIDE_SPECULAR_AT: usize = STAGES * WIDE_STAGE_BYTES;
 
 pub fn stage_size(wide: bool) -> usize
     ensures { result ≡ stage_size wide }
@@ -62,6 +63,7 @@ pub(crate) fn stage_at(body: &[u8], at: usize, wide: bool) -> Stage
     }
 }
 
+// The kind of key is a value here and no const parameter: in a function with one that is a bool the check of `from_fn` stops with an error of its own.
 fn stages_from_body(body: &[u8], wide: bool) -> [Stage; 8]
     requires { body_length (key_kind wide) ≤ length body.now }
     ensures { result ≡ stages_from_bytes wide 8 body.now }
@@ -118,7 +120,7 @@ pub fn entry_from_body(body: &[u8]) -> Entry
     requires { body_length Kind.Entry ≤ length body.now }
     ensures { result ≡ entry_from_body body.now }
 {
-    let name = body[1..].first_chunk::<32>().unwrap();
+    let name = body[1..].first_chunk::<NAME_LENGTH>().unwrap();
     Entry {
         len: body[0],
         name: *name,
@@ -152,7 +154,7 @@ fn record_from_body(kind: Kind, body: &[u8]) -> Record
     }
 }
 
-// The byte of specular add, which is a yes or no in the value of a key.
+// The byte of specular add, which is a yes or no in the value of a key. A kind without one has 0, which is no cause.
 fn specular_in(kind: Kind, body: &[u8]) -> u8
     requires { body_length kind ≤ length body.now }
     ensures { result ≡ specular_in kind body.now }

@@ -13,17 +13,8 @@ use emission::emittable::Emittable;
 use inspection::causes::{entry_cause, key_cause, variant_cause};
 use inspection::keys::{any_byte_of_three, raw_key};
 use values::{Emitted, Entry, Key, Refusal, Variant, number};
-use wire::Kind;
 use wire::reader::{entry_from_body, key_from_body, variant_from_body};
-
-// How many bytes the bodies have.
-const KEY_LENGTH: usize = 58;
-
-const WIDE_KEY_LENGTH: usize = 74;
-
-const VARIANT_LENGTH: usize = 19;
-
-const ENTRY_LENGTH: usize = 33;
+use wire::{ENTRY_BODY, KEY_BODY, Kind, VARIANT_BODY, WIDE_KEY_BODY};
 
 // Length, mask, rows, lookups, and the four warnings.
 pub(crate) const RESULT_LENGTH: usize = 8;
@@ -85,8 +76,8 @@ pub(crate) fn rewrite_key(key: &mut Key, body: &[u8])
 // The first cause of three bodies: the key's, then the variant's and the entry's.
 fn bodies_cause<const WIDE: bool>(
     key: &[u8],
-    variant: &[u8; VARIANT_LENGTH],
-    entry: &[u8; ENTRY_LENGTH],
+    variant: &[u8; VARIANT_BODY],
+    entry: &[u8; ENTRY_BODY],
 ) -> Result<(), Refusal>
     requires { body_length (key_kind WIDE) ≤ length key.now }
     ensures { answer_number result
@@ -97,11 +88,11 @@ fn bodies_cause<const WIDE: bool>(
     entry_cause(entry)
 }
 
-// From three bodies. The key is read first: its bytes are stored a few at a time, and whoever copies it whole right behind that waits for them.
+// From three bodies. The key's is a slice: no const argument is computed, so an array of its length has no name here. The key is read first: its bytes are stored a few at a time, and whoever copies it whole right behind that waits for them.
 fn emit_bodies<const WIDE: bool>(
     key: &[u8],
-    variant: &[u8; VARIANT_LENGTH],
-    entry: &[u8; ENTRY_LENGTH],
+    variant: &[u8; VARIANT_BODY],
+    entry: &[u8; ENTRY_BODY],
     text: &mut [u8],
     res: &mut [u64; RESULT_LENGTH],
 ) -> Result<(), Refusal>
@@ -130,9 +121,9 @@ fn emit_bodies<const WIDE: bool>(
 // Writes the text of a key, a variant and an entry to the front of text, and its length, mask, rows, lookups and warnings to result.
 #[unsafe(no_mangle)]
 pub extern "C" fn yuzuknoll_emit(
-    key: &[u8; KEY_LENGTH],
-    variant: &[u8; VARIANT_LENGTH],
-    entry: &[u8; ENTRY_LENGTH],
+    key: &[u8; KEY_BODY],
+    variant: &[u8; VARIANT_BODY],
+    entry: &[u8; ENTRY_BODY],
     text: &mut [u8],
     res: &mut [u64; RESULT_LENGTH],
 ) -> u64
@@ -148,9 +139,9 @@ pub extern "C" fn yuzuknoll_emit(
 // The same of a wide key.
 #[unsafe(no_mangle)]
 pub extern "C" fn yuzuknoll_emit_wide(
-    key: &[u8; WIDE_KEY_LENGTH],
-    variant: &[u8; VARIANT_LENGTH],
-    entry: &[u8; ENTRY_LENGTH],
+    key: &[u8; WIDE_KEY_BODY],
+    variant: &[u8; VARIANT_BODY],
+    entry: &[u8; ENTRY_BODY],
     text: &mut [u8],
     res: &mut [u64; RESULT_LENGTH],
 ) -> u64

@@ -1,6 +1,7 @@
 //! The held bytes as the records of a key, a variant and an entry, each in a part of its own, and what the parts hold.
 //!
-//! The parts are functions of the lent array. A struct that borrows it would be no plainer: each clause would name it as it is at entry.
+//! The parts are functions of the lent array. Tried: methods of a struct that borrows it. It is no plainer, since each clause has to say `self.entry.held.now`
+//! where it now says `held.now`.
 ghost use Rattle.std.specs.Prelude.{◌≤◌, ◌≡◌, is_some, length};
 ghost use Rattle.records.specs.Applying.{all_held};
 ghost use Rattle.wire.specs.Bodies.{body_length, entry_from_body, variant_from_body};
@@ -9,14 +10,14 @@ ghost use Rattle.yuzuknoll.specs.Applying.{held_body, held_of, held_wide, is_rec
 use inspection::causes::kind_cause;
 use values::{Entry, Key, Variant};
 use wire::reader::{entry_from_body, key_from_body, variant_from_body};
-use wire::{KIND_WIDE_KEY, Kind, key_kind};
+use wire::{ENTRY_BODY, KIND_WIDE_KEY, Kind, VARIANT_BODY, WIDE_KEY_BODY, key_kind};
 
 // How many bytes the record of a key, of either kind, of a variant and of an entry has.
-const KEY_ROOM: usize = 75;
+const KEY_ROOM: usize = 1 + WIDE_KEY_BODY;
 
-const VARIANT_ROOM: usize = 20;
+const VARIANT_ROOM: usize = 1 + VARIANT_BODY;
 
-const ENTRY_ROOM: usize = 34;
+const ENTRY_ROOM: usize = 1 + ENTRY_BODY;
 
 // Where each begins.
 pub(crate) const KEY_PLACE: usize = 0;

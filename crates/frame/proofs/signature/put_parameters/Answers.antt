@@ -10,7 +10,6 @@ pub returns : goal.returns
 unfolding parameters_text survey_of
 returns c =
     let bumps = ap (λ (s : Survey). s.bump_env) c.args.s.now.is in
-    let samplers = rw c.active.ensures.stages at c.put_samplers-p.ensures in
     rw (← bumps, ← c.has.ensures, ← c.tested.ensures, ← c.fogged.ensures, ← c.has-2.ensures)
     (regroup (c.put_stage_in-p.ensures ⨾ c.put_when-p.ensures.written ⨾ c.put_when-p-2.ensures.written ⨾ c.put_when-p-3.ensures.written
-    ⨾ c.put_when-p-4.ensures.written ⨾ samplers ⨾ c.put.ensures.written))
+    ⨾ c.put_when-p-4.ensures.written ⨾ c.put_samplers-p.ensures ⨾ c.put.ensures.written))

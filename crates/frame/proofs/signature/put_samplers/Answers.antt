@@ -7,8 +7,8 @@ loop-i-init c = λ out' p' w. w
 
 pub loop-i-preserved : goal.loop-i-preserved
 loop-i-preserved c =
-    samplers_turn c.args.v c.args.stages.now c.loop-i.i _ c.loop-i-test.true c.loop-i.invariant
+    samplers_turn c.args.v _ c.loop-i.i _ c.loop-i-test.true c.loop-i.invariant
     (rw (c.textured.ensures, c.new.ensures) at c.put_sampler-p.ensures)
 
 pub returns : goal.returns
-returns c = samplers_end c.args.v c.args.stages.now c.loop-i.i c.loop-i-test.false c.loop-i.invariant
+returns c = rw (← c.active-stage-items.ensures.stages) (samplers_end c.args.v _ c.loop-i.i c.loop-i-test.false c.loop-i.invariant)

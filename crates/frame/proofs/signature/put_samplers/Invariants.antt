@@ -3,4 +3,4 @@ use Rattle.frame.proofs.Samplers.{SamplersFrom}
 use Rattle.frame.proofs.signature.put_samplers.Given as goal
 
 abbrev pub invariant-loop-i : goal.invariant-loop-i
-invariant-loop-i l = SamplersFrom l.v l.stages l.fn.out l.at l.out l.p l.i
+invariant-loop-i l = SamplersFrom l.v l.stage-items l.fn.out l.at l.out l.p l.i
