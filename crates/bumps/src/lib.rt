@@ -1,6 +1,6 @@
 //! Bump stages: the coordinate that one displaces, the texel that one scales, and all that a lookup behind one writes.
 //!
-//! A stage stands beside its coordinate and beside the bump stage in front of it, as in `lookups::coordinates`.
+//! A stage stands beside its coordinate, as in `lookups::coordinates`, and beside the bump stage in front of it, which is another.
 #![tactic(auto)]
 
 ghost use Rattle.std.specs.Prelude.{◌+◌, ◌*◌, false};

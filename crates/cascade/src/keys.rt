@@ -2,7 +2,8 @@
 //!
 //! A rule that rarely applies first asks for the rare argument. Ops and arguments stay bytes: each rule compares one with a code or two, where an enum
 //! would first be made by a match of its own, and `Op::Other` is one case for ops that these rules tell apart. A combiner and whether its stage has a
-//! texture stay two parameters: both combiners of a stage share the second, which a struct would hold twice.
+//! texture stay two parameters: both combiners of a stage share the second, which a struct would hold twice. Rules of one line that differ in a constant are
+//! functions of their own, each under the name of its definition.
 ghost use Rattle.std.specs.Prelude.{◌≡◌, ℕ, Bool};
 ghost use Rattle.cascade.specs.Keys.{textured, to_temp, active_count, reads_first, reads_second, selects, some, some_counted, reads, falls_back, is_bump_op, bump, alpha_from_colour, reads_constant, blends_by_factor, names_factor};
 ghost use Rattle.cascade.specs.Walks.{Tests};

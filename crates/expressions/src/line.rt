@@ -1,4 +1,4 @@
-//! The line of a stage.
+//! The line of a stage. A stage's number and flags stand beside its expressions, which hold neither, as in `combine`.
 ghost use Rattle.text.specs.Buffer.{Wrote};
 ghost use Rattle.cascade.specs.Stages.{line_text};
 

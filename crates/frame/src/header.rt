@@ -1,4 +1,6 @@
 //! What stands before the function, and the return type.
+//!
+//! Writers that differ in their literals are functions of their own, each under the name of its definition.
 ghost use Rattle.text.specs.Buffer.{Wrote};
 ghost use Rattle.shader.specs.Whole.{varyings_text, srgb_helper_text, front_text};
 

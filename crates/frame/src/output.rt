@@ -1,4 +1,6 @@
 //! Specular, fog, alpha test, sRGB and the return.
+//!
+//! Writers that differ in their literals are functions of their own, each under the name of its definition.
 ghost use Rattle.text.specs.Text.{lit, ◌⊕◌};
 ghost use Rattle.text.specs.Buffer.{Wrote};
 ghost use Rattle.shader.specs.Output.{specular_text, fog_depth_text, fog_factor_text, fog_text, comparison_text, test_text, srgb_text, return_text, output_text};

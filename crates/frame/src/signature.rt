@@ -1,4 +1,6 @@
 //! The parameters of the function, and what its body begins with.
+//!
+//! Writers that differ in their literals are functions of their own, each under the name of its definition.
 ghost use Rattle.text.specs.Text.{bytes, lit, when, ◌⊕◌};
 ghost use Rattle.text.specs.Marks.{numbered};
 ghost use Rattle.text.specs.Buffer.{Wrote};

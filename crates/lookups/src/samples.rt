@@ -1,4 +1,4 @@
-//! The lines of lookups: a texture sampled or gathered at a coordinate.
+//! The lines of lookups: a texture sampled or gathered at a coordinate, which stands beside the sampling as in `lookup`.
 ghost use Rattle.text.specs.Text.{lit, when, ◌⊕◌};
 ghost use Rattle.text.specs.Buffer.{Wrote};
 ghost use Rattle.shader.specs.Lookups.{coordinate_text, lod_row, level_text, gather_text, compare_text, texel_line, projected_line, lookup_text};

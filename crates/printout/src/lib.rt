@@ -34,6 +34,7 @@ pub struct Printing {
     pub next: Option<Session>,
 }
 
+// Functions and no methods of a session: each goes by the input or by lent buffers as much.
 pub fn begin() -> Session
     ensures { result ≡ begun }
 {

@@ -53,7 +53,8 @@ fn put_filled(out: &mut [u8], at: usize, s: &[u8], digit: u8) -> usize
     at + s.len()
 }
 
-// The bytes of s. A mark in them stays: it is filled with itself.
+// The bytes of s. A mark in them stays: it is filled with itself. Bytes are copied by it too: `copy_from_slice` asks first whether the slices overlap, and took
+// 26 steps more where it was tried, at the name of an entry.
 #[tactic(auto, using(crate::proofs::Laws::kept_marks))]
 pub fn put(out: &mut [u8], at: usize, s: &[u8]) -> usize
     ensures { Placed out.old at out.new result (raw s.now) }

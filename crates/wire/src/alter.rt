@@ -1,4 +1,4 @@
-//! A state write done to the body of a key as it lies: the stage that it names changes, and no other byte.
+//! A state write done to the body of a key as it lies: the stage that it names changes, and no other byte. The body is a slice, as in the reader.
 ghost use Rattle.std.specs.Prelude.{◌+◌, ◌*◌, ◌≤◌, ◌≡◌, drop, length};
 ghost use Rattle.wire.specs.Bodies.{stage_from_bytes, stage_size};
 ghost use Rattle.wire.specs.Altering.{Alterable, body_with};

@@ -2,7 +2,8 @@
 //!
 //! A body is a slice, whose least length a `requires` names: it may go on behind that, and an array would ask more of callers. Nor could a function for
 //! keys of both kinds name an array, since no const argument is computed. A body and its kind stay two parameters of `record_from_body` and `specular_in`:
-//! the two are `read_as` taken apart, which has asked for the length.
+//! the two are `read_as` taken apart, which has asked for the length, and a struct of both would be made and looked at once. Sizes and places that differ in a
+//! constant are functions of their own, each under the name of its definition.
 ghost use Rattle.std.specs.Prelude.{◌+◌, ◌*◌, ◌≤◌, ◌<◌, ◌≡◌, drop, length};
 ghost use Rattle.values.specs.Refusals.{answer_number};
 ghost use Rattle.wire.specs.Bodies.{body_length, entry_from_body, key_from_body, key_kind, mask_at, record_from_body, specular_at};

@@ -57,8 +57,7 @@ fn emit_held(
     emit_values(&values, text, res)
 }
 
-// A value's record, over its part of the held bytes. `copy_from_slice` in the place of `put` asks first whether the slices overlap: tried at the name of an
-// entry, it took 26 steps more.
+// A value's record, over its part of the held bytes.
 fn keep_record(kind: Kind, bytes: &[u8], held: &mut [u8; HELD_LENGTH])
     requires { (place_of kind + record_length kind ≤ held_length) × (record_length kind ≤ length bytes.now) }
     ensures { held.new ≡ sets held.old (place_of kind) (take (record_length kind) bytes.now) }

@@ -88,7 +88,8 @@ fn bodies_cause<const WIDE: bool>(
     entry_cause(entry)
 }
 
-// From three bodies. The key's is a slice: no const argument is computed, so an array of its length has no name here. The key is read first: its bytes are stored a few at a time, and whoever copies it whole right behind that waits for them.
+// From three bodies. The key's is a slice, here and above: no const argument is computed, so an array of its length has no name. The key is read first: its
+// bytes are stored a few at a time, and whoever copies it whole right behind that waits for them.
 fn emit_bodies<const WIDE: bool>(
     key: &[u8],
     variant: &[u8; VARIANT_BODY],

@@ -5,7 +5,7 @@ ghost use Rattle.yuzuknoll.specs.Entries.{pass_of, state_of};
 
 use admission::Pass;
 
-// The state that three numbers stand for, each modulo 256, so that no number is out of range.
+// The state that three numbers stand for. The C interface keeps them as numbers, and any three are a state: each counts modulo 256.
 fn pass_of(state: &[u64; 3]) -> Pass
     ensures { result ≡ pass_of state.now }
 {

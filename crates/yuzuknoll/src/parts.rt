@@ -28,7 +28,8 @@ pub(crate) const ENTRY_PLACE: usize = VARIANT_PLACE + VARIANT_ROOM;
 
 pub(crate) const HELD_LENGTH: usize = ENTRY_PLACE + ENTRY_ROOM;
 
-// Where the part of a kind begins. A state write alters the key there. An emit record's part is empty, behind the others.
+// Where the part of a kind begins. A state write alters the key there. An emit record's part is empty, behind
+// the others, as its definition says: an `Option` would have a case that is never looked at.
 pub(crate) fn place_of(kind: Kind) -> usize
     ensures { result ≡ place_of kind }
 {
@@ -40,7 +41,7 @@ pub(crate) fn place_of(kind: Kind) -> usize
     }
 }
 
-// Whether a part, a kind byte and a body, is a good record of its kind.
+// Whether a part, a kind byte and a body, is a good record of its kind. The body is a slice that may be longer, as in wire's reader.
 fn part_held(kind: Kind, byte: u8, body: &[u8]) -> bool
     requires { body_length kind ≤ length body.now }
     ensures { result ≡ is_record kind byte body.now }
