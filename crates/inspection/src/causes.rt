@@ -17,8 +17,8 @@ use wire::{Kind, VARIANT_BODY, body_length, key_kind};
 // Where a variant's body has its flags.
 const VARIANT_FLAGS_AT: usize = VARIANT_BODY - 1;
 
-// Whether the body of a kind is whole. Each kind asks by itself, so that one jump tells the kinds apart. The reader asks the same in a line of its own, behind which
-// it goes on with the same body.
+// Whether the body of a kind is whole. Each kind asks by itself, so that one jump tells the kinds apart. The reader asks the same in a line of its own,
+// behind which it goes on with the same body.
 fn check_whole(kind: Kind, body: &[u8]) -> Result<(), Refusal>
     ensures { result ≡ cond (ltb (length body.now) (body_length kind)) (Err Refusal.CutShort) (Ok tt) }
 {
