@@ -1,10 +1,11 @@
 //! The program: records from standard input, and the texts that they ask for.
 #![tactic(auto)]
 
+ghost use Rattle.std.specs.Prelude.{◌≤◌, IfOk, length};
 ghost use Rattle.std.specs.Io.{ReadsAtMost};
 
 use printout::lines::{LINE_LENGTH, put_refused_line};
-use printout::{INPUT_LENGTH, print_with};
+use printout::{INPUT_LENGTH, TEXT_LENGTH, print_through};
 use std::io;
 use std::io::{ErrorKind, Read, Write};
 use values::Refusal;
@@ -42,7 +43,9 @@ fn read_some<R: Read>(from: &mut R, buf: &mut [u8]) -> io::Result<usize>
 
 // The input to its end. One read may bring fewer bytes than there are, and only a read behind a full buffer tells whether the input ends there. The
 // loop counts, since `read_exact` does not tell how many bytes came before the end, and `read_to_end` takes a Vec.
-fn read_input<'a, R: Read>(from: &mut R, buffer: &'a mut [u8]) -> Result<&'a [u8], Untaken> {
+fn read_input<'a, R: Read>(from: &mut R, buffer: &'a mut [u8]) -> Result<&'a [u8], Untaken>
+    ensures { IfOk result (λ input. length input.now ≤ length buffer.old) }
+{
     let mut n = 0;
     while n < buffer.len() {
         let more = read_some(from, &mut buffer[n..])?;
@@ -58,19 +61,20 @@ fn read_input<'a, R: Read>(from: &mut R, buffer: &'a mut [u8]) -> Result<&'a [u8
     }
 }
 
-fn print_too_long<W: Write>(to: &mut W) -> io::Result<()> {
-    let mut line = [0u8; LINE_LENGTH];
-    let n = put_refused_line(&mut line, Refusal::InputTooLong, INPUT_LENGTH);
+fn print_too_long<W: Write>(to: &mut W, line: &mut [u8; LINE_LENGTH]) -> io::Result<()> {
+    let n = put_refused_line(line, Refusal::InputTooLong, INPUT_LENGTH);
     to.write_all(&line[..n])
 }
 
 fn main(rt: HostRuntime) {
     let mut buffer = [0u8; INPUT_LENGTH];
+    let mut line = [0u8; LINE_LENGTH];
+    let mut text = [0u8; TEXT_LENGTH];
     let mut to = rt.stdout();
     // The first write that fails is the last.
     let written = match read_input(&mut rt.stdin(), &mut buffer) {
-        Ok(input) => print_with(input, |part| to.write_all(part)),
-        Err(Untaken::TooLong) => print_too_long(&mut to),
+        Ok(input) => print_through(input, &mut line, &mut text, &mut |part| to.write_all(part)),
+        Err(Untaken::TooLong) => print_too_long(&mut to, &mut line),
         Err(Untaken::Failed) => {
             let _ = eprintln!(rt; "standard input cannot be read");
             return;

@@ -5,7 +5,7 @@ use Prim.Native.Nat.{ℕ, ◌≤◌}
 use native.Mathlib.Omega.{arith}
 use lib.Dec.{eqb}
 use lib.ListN.{length, take, drop, length-append}
-use Rattle.std.specs.Prelude.{Option, Some, None, IfSome, Result, Ok, Err, IsErrAnd, IfErr}
+use Rattle.std.specs.Prelude.{Option, Some, None, IfSome, Result, Ok, Err, IsErrAnd, IfErr, OnOk}
 use Rattle.std.proofs.lemmas.Bool.{cond_both}
 use Rattle.std.specs.Borrow.{Bor}
 use Rattle.std.specs.Fn.{Mut, Called}
@@ -19,7 +19,7 @@ use Rattle.values.specs.declared.Refusal.{Refusal}
 use Rattle.records.specs.Applying.{all_held, text_held, apply_answer, held_after}
 use Rattle.records.specs.declared.Held.{Held}
 use Rattle.records.specs.declared.Applied.{Applied}
-use Rattle.printout.specs.Giving.{Gave, GaveUntil}
+use Rattle.printout.specs.Giving.{Gave, Passed, Refused}
 use Rattle.printout.specs.Program.{line_after, text_room}
 use Rattle.printout.specs.Steps.{Step, text_step, answered_step, ready, step_of}
 use Rattle.printout.specs.declared.Session.{Session}
@@ -87,10 +87,14 @@ module _ {F E : Type 0} {print : Mut F (Bor (List ℕ) × Unit {0}) (Result (Uni
         whole = rw (concat-append k.parts (part.now ∷ []), append-nil part.now, append_assoc (concat k.parts) part.now rest) k.whole;
       }
 
-  pub gave_until : {g h : F} {part : Bor (List ℕ)} {e : E} (r : Result (Unit {0}) E) (more : List ℕ) → Called print g (part, tt) (Err e) h →
-      Gave print f bs g (part.now ++ more) → IsErrAnd r (λ y. y ≡ e) → IfErr r (λ e. GaveUntil print f bs e)
-  gave_until {g} {h} {part} {e} r more c k i =
-      let p = err_from_is_err_and r i in
-      rw (p.1, p.2) (record { last = g; part = part.now; more = more; gave = k; after = h; refused = called_at print c refl })
+  pub refused_as : {g : F} {e : E} (r : Result (Unit {0}) E) → Refused print f bs e g → IsErrAnd r (λ y. y ≡ e) →
+      IfErr r (λ e. Refused print f bs e g)
+  refused_as r k i = let p = err_from_is_err_and r i in rw (p.1, p.2) k
+
+-- a part that the closure accepts, of any calls before it
+pub passed : {F E : Type 0} {print : Mut F (Bor (List ℕ) × Unit {0}) (Result (Unit {0}) E)} {g h : F} {part : Bor (List ℕ)} (r : Result (Unit {0}) E) →
+    Called print g (part, tt) r h → OnOk r (Passed print g part.now h)
+passed (Ok tt) c = λ f bs rest k. gave_more c k
+passed (Err e) c = tt
 
 pub ruleset turn = (line_fits, text_fits, line_taken, text_taken, less_left, begun_within, begun_left, gave_none)

@@ -3,8 +3,8 @@
 
 pub mod lines;
 
-ghost use Rattle.std.specs.Prelude.{◌+◌, ◌<◌, ◌≤◌, ◌^◌, ◌≡◌, IfErr, None, OnOk, length};
-ghost use Rattle.printout.specs.Giving.{GaveAll, GaveUntil};
+ghost use Rattle.std.specs.Prelude.{◌+◌, ◌<◌, ◌≤◌, ◌^◌, ◌≡◌, IfErr, None, OnOk, [], length};
+ghost use Rattle.printout.specs.Giving.{Gave, GaveAll, GaveUntil, Passed, Refused, Stopped};
 ghost use Rattle.printout.specs.Program.{line_after, records_output};
 ghost use Rattle.printout.specs.Steps.{begun, onwards, ready, record_step, step_of, stepped};
 
@@ -124,8 +124,43 @@ pub fn step(
     step_record(session, input, line, text)
 }
 
-// Hands what is printed for the input to a closure, the line and then the text of each step, up to the first part that it refuses.
+// Gives a part to a closure, if there is anything in it: most steps print nothing.
+fn give<E: Drop, F: FnMut(&[u8]) -> Result<(), E>>(print: &mut F, part: &[u8]) -> Result<(), E>
+    requires { F.IsAlwaysCallable print.old }
+    ensures callable { F.IsAlwaysCallable print.new }
+    ensures accepted { OnOk result (Passed F.FnMut print.old part.now print.new) }
+    ensures refused { IfErr result (λ e. Stopped F.FnMut print.old part.now e print.new) }
+{
+    if part.is_empty() {
+        return Ok(());
+    }
+    print(part)
+}
+
+// Hands what is printed for the input to a closure, the line and then the text of each step, up to the first part that it refuses. The buffers are lent: a
+// caller with many inputs clears none for each of them. So is the closure, so that it is known how the last call leaves it, and that no call is behind that.
 #[tactic(auto, using(crate::proofs::Loops::turn))]
+pub fn print_through<E: Drop, F: FnMut(&[u8]) -> Result<(), E>>(
+    input: &[u8],
+    line: &mut [u8; LINE_LENGTH],
+    text: &mut [u8; TEXT_LENGTH],
+    print: &mut F,
+) -> Result<(), E>
+    requires { F.IsAlwaysCallable print.old }
+    ensures accepted { OnOk result (Gave F.FnMut print.old (records_output input.now) print.new []) }
+    ensures refused { IfErr result (λ e. Refused F.FnMut print.old (records_output input.now) e print.new) }
+{
+    let mut next = Some(begin());
+    while let Some(session) = next {
+        let printed = step(session, input, line, text);
+        give(print, &line[..printed.line])?;
+        give(print, &text[..printed.text])?;
+        next = printed.next;
+    }
+    Ok(())
+}
+
+// The same, with buffers of its own.
 pub fn print_with<E: Drop, F: FnMut(&[u8]) -> Result<(), E>>(
     input: &[u8],
     mut print: F,
@@ -136,12 +171,5 @@ pub fn print_with<E: Drop, F: FnMut(&[u8]) -> Result<(), E>>(
 {
     let mut line = [0u8; LINE_LENGTH];
     let mut text = [0u8; TEXT_LENGTH];
-    let mut next = Some(begin());
-    while let Some(session) = next {
-        let printed = step(session, input, &mut line, &mut text);
-        print(&line[..printed.line])?;
-        print(&text[..printed.text])?;
-        next = printed.next;
-    }
-    Ok(())
+    print_through(input, &mut line, &mut text, &mut print)
 }

@@ -1,9 +1,10 @@
 //! Replays the list of the Rust's answers, and prints which cases differ, and how many. oracle/list/README.md says how the list is laid out.
 #![tactic(auto)]
 
-ghost use Rattle.std.specs.Prelude.{◌≤◌, length};
+ghost use Rattle.std.specs.Prelude.{◌≤◌, IfOk, length};
 
-use printout::print_with;
+use printout::lines::LINE_LENGTH;
+use printout::{TEXT_LENGTH, print_through};
 use std::fs::File;
 use std::io::Read;
 
@@ -14,12 +15,22 @@ const BLOCK_LENGTH: usize = 16384;
 const MOST_CASES: usize = 100000;
 
 // Whether what is printed for the input is what is expected.
-fn same_output(input: &[u8], expected: &[u8]) -> bool {
+fn same_output(
+    input: &[u8],
+    expected: &[u8],
+    line: &mut [u8; LINE_LENGTH],
+    text: &mut [u8; TEXT_LENGTH],
+) -> bool {
     let mut rest = expected;
-    let compared: Result<(), ()> = print_with(input, |part| {
-        rest = rest.strip_prefix(part).ok_or(())?;
-        Ok(())
-    });
+    let compared: Result<(), ()> = print_through(
+        input,
+        line,
+        text,
+        &mut |part| {
+            rest = rest.strip_prefix(part).ok_or(())?;
+            Ok(())
+        },
+    );
     compared.is_ok() && rest.is_empty()
 }
 
@@ -48,7 +59,9 @@ fn read_full<R: Read>(from: &mut R, buf: &mut [u8]) -> usize
 }
 
 // A block of the list, an input or an output, which stands behind its length in four bytes.
-fn read_block<'a, R: Read>(from: &mut R, buffer: &'a mut [u8]) -> Result<&'a [u8], Missing> {
+fn read_block<'a, R: Read>(from: &mut R, buffer: &'a mut [u8]) -> Result<&'a [u8], Missing>
+    ensures { IfOk result (λ block. length block.now ≤ length buffer.old) }
+{
     let mut head = [0u8; 4];
     let got = read_full(from, &mut head);
     if got == 0 {
@@ -67,10 +80,12 @@ fn replay_case<R: Read>(
     from: &mut R,
     input: &mut [u8],
     output: &mut [u8],
+    line: &mut [u8; LINE_LENGTH],
+    text: &mut [u8; TEXT_LENGTH],
 ) -> Result<bool, Missing> {
     let given = read_block(from, input)?;
     let expected = read_block(from, output).map_err(|_| Missing::CutShort)?;
-    Ok(same_output(given, expected))
+    Ok(same_output(given, expected, line, text))
 }
 
 // What standard output does not take is not printed.
@@ -86,9 +101,11 @@ fn report(rt: &impl Print, cases: usize, differences: usize) {
 fn replay<R: Read>(rt: &impl Print, from: &mut R) {
     let mut input = [0u8; BLOCK_LENGTH];
     let mut output = [0u8; BLOCK_LENGTH];
+    let mut line = [0u8; LINE_LENGTH];
+    let mut text = [0u8; TEXT_LENGTH];
     let mut differences = 0;
     for case in 0..MOST_CASES {
-        match replay_case(from, &mut input, &mut output) {
+        match replay_case(from, &mut input, &mut output, &mut line, &mut text) {
             Ok(true) => {}
             Ok(false) => {
                 tell(rt, case);

@@ -2,7 +2,7 @@
 use Rattle.printout.specs.Giving.{Gave}
 use Rattle.printout.specs.Program.{records_output}
 use Rattle.printout.proofs.Printed.{Within, left_for, still_left}
-use Rattle.printout.proofs.print_with.Given as goal
+use Rattle.printout.proofs.print_through.Given as goal
 
 abbrev pub invariant-loop-next : goal.invariant-loop-next
 invariant-loop-next g l =

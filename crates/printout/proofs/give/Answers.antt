@@ -1,0 +1,6 @@
+-- A part that the closure accepts is one more.
+use Rattle.printout.proofs.Loops.{passed}
+use Rattle.printout.proofs.give.Goals as goal
+
+pub returns-clause-accepted : goal.returns-clause-accepted
+returns-clause-accepted g c = passed c.print.result c.print.ensures
