@@ -175,7 +175,7 @@ fn read_as(kind: Kind, body: &[u8]) -> Result<Reading, Refusal>
         return Err(Refusal::CutShort);
     }
     let record = record_from_body(kind, body);
-    check_record(record)?;
+    check_record(&record)?;
     if 1 < specular_in(kind, body) {
         return Err(Refusal::SpecularAdd);
     }

@@ -121,7 +121,7 @@ pub fn write(record: Record, out: &mut [u8]) -> Result<usize, Refusal>
     ensures buffer { out.new ≡ after_writing result (record_bytes «record») out.old }
     ensures number { answer_number result ≡ written_number «record» (length out.old) }
 {
-    check_record(record)?;
+    check_record(&record)?;
     let n = record_length(record.kind());
     if out.len() < n {
         return Err(Refusal::NoRoom);
