@@ -12,7 +12,7 @@ ghost use Rattle.values.specs.Entries.{continues_name, starts_name};
 pub use entry::Pass;
 use entry::entry_good;
 use values::{Entry, Key, Refusal, Stage, Variant};
-use words::entry_reserved;
+pub use words::entry_reserved;
 
 // The lowest flag bit without a meaning: bit 2 of a stage, bit 6 of a variant.
 pub const UNUSED_STAGE_FLAG: u8 = 4;

@@ -55,10 +55,11 @@ fn reserved(name: &[u8]) -> bool
     }
 }
 
-// Not inlined beside `entry_good`, where the compiler would take the name apart: that took 60 steps more for an entry.
+// Whether the name, as far as its length byte goes, is a reserved word, of any entry. Not inlined beside `entry_good`, where the compiler would take the name
+// apart: that took 60 steps more for an entry.
 #[inline(never)]
 #[tactic(auto, using(crate::proofs::Reserved::too_long))]
-pub(crate) fn entry_reserved(entry: Entry) -> bool
+pub fn entry_reserved(entry: Entry) -> bool
     ensures { result ≡ entry_reserved entry }
 {
     let name = entry.name.get(..entry.len as usize);

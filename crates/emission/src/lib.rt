@@ -11,7 +11,7 @@ ghost use Rattle.values.specs.Refusals.{answer_number};
 use crate::emittable::Emittable;
 use admission::check_values;
 use cascade::effective::effective;
-pub use values::{Combiner, Emitted, Entry, Key, Refusal, Stage, Variant};
+pub use values::{Combiner, Emitted, Entry, Key, Refusal, Stage, Variant, number};
 
 // Writes the text of a key, a variant and an entry to the front of out; bytes behind it stay. A refusal leaves out as it was.
 pub fn emit(key: Key, variant: Variant, entry: Entry, out: &mut [u8]) -> Result<Emitted, Refusal>

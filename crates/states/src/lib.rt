@@ -14,6 +14,28 @@ use combiners::codes::*;
 use state::StageState;
 use values::{Combiner, Key, Refusal, STAGES, Stage, StateWrite};
 
+// The types of states, by Direct3D 9's names and numbers.
+pub const D3DTSS_COLOROP: u8 = 1;
+
+pub const D3DTSS_COLORARG1: u8 = 2;
+
+pub const D3DTSS_COLORARG2: u8 = 3;
+
+pub const D3DTSS_ALPHAOP: u8 = 4;
+
+pub const D3DTSS_ALPHAARG1: u8 = 5;
+
+pub const D3DTSS_ALPHAARG2: u8 = 6;
+
+pub const D3DTSS_COLORARG0: u8 = 26;
+
+pub const D3DTSS_ALPHAARG0: u8 = 27;
+
+pub const D3DTSS_RESULTARG: u8 = 28;
+
+// Our own type: whether a texture is bound, which is no state in Direct3D.
+pub const TEXTURE_BOUND: u8 = 0;
+
 const LAST_STAGE: u8 = STAGES as u8 - 1;
 
 // What an argument 0 is where nothing has written it.

@@ -4,6 +4,10 @@ ghost use Rattle.std.specs.Prelude.{◌≡◌};
 ghost use Rattle.states.specs.Types.{Names, sets_arg0, state_number, takes};
 ghost use Rattle.states.specs.States.{result_arg_of, set_stage, stage_state, with_bound, with_result};
 
+use crate::{
+    D3DTSS_ALPHAARG0, D3DTSS_ALPHAARG1, D3DTSS_ALPHAARG2, D3DTSS_ALPHAOP, D3DTSS_COLORARG0,
+    D3DTSS_COLORARG1, D3DTSS_COLORARG2, D3DTSS_COLOROP, D3DTSS_RESULTARG, TEXTURE_BOUND,
+};
 use combiners::codes::{D3DTA_CURRENT, D3DTA_TEMP};
 use values::{Refusal, Stage};
 
@@ -25,7 +29,7 @@ pub(crate) enum StageState {
     TextureBound,
 }
 
-// Direct3D 9's numbers, and our own 0.
+// The state of a type's number.
 impl TryFrom<u8> for StageState {
     type Error = Refusal;
 
@@ -33,16 +37,16 @@ impl TryFrom<u8> for StageState {
 
     fn try_from(number: u8) -> Result<Self, Refusal> {
         match number {
-            0 => Ok(StageState::TextureBound),
-            1 => Ok(StageState::ColorOp),
-            2 => Ok(StageState::ColorArg1),
-            3 => Ok(StageState::ColorArg2),
-            4 => Ok(StageState::AlphaOp),
-            5 => Ok(StageState::AlphaArg1),
-            6 => Ok(StageState::AlphaArg2),
-            26 => Ok(StageState::ColorArg0),
-            27 => Ok(StageState::AlphaArg0),
-            28 => Ok(StageState::ResultArg),
+            TEXTURE_BOUND => Ok(StageState::TextureBound),
+            D3DTSS_COLOROP => Ok(StageState::ColorOp),
+            D3DTSS_COLORARG1 => Ok(StageState::ColorArg1),
+            D3DTSS_COLORARG2 => Ok(StageState::ColorArg2),
+            D3DTSS_ALPHAOP => Ok(StageState::AlphaOp),
+            D3DTSS_ALPHAARG1 => Ok(StageState::AlphaArg1),
+            D3DTSS_ALPHAARG2 => Ok(StageState::AlphaArg2),
+            D3DTSS_COLORARG0 => Ok(StageState::ColorArg0),
+            D3DTSS_ALPHAARG0 => Ok(StageState::AlphaArg0),
+            D3DTSS_RESULTARG => Ok(StageState::ResultArg),
             _ => Err(Refusal::StateType),
         }
     }

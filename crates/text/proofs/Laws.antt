@@ -13,7 +13,7 @@ use lib.ListN.{length, drop, set, length-append}
 use lib.Seq.{sets, sets-eq}
 use Rattle.text.specs.Text.{Text, raw, ◌⊕◌, pick, flat, size, digit, decimal, decimal_of}
 use Rattle.text.specs.Marks.{filled_byte, filled}
-use Rattle.text.specs.Buffer.{Wrote}
+use Rattle.text.specs.Buffer.{Placed, Wrote}
 
 pub flat-length : (t : Text) → length (flat t) ≡ size t
 flat-length (raw x) = refl
@@ -91,9 +91,26 @@ pick_true e w = rw e (record { kept = w.kept; fits = w.fits; over = w.over })
 pub pick_false : {l l' : List ℕ} {a a' : ℕ} {b : Bool} {s t : Text} → b ≡ false → Wrote l a l' a' t → Wrote l a l' a' (pick b s t)
 pick_false e w = rw e (record { kept = w.kept; fits = w.fits; over = w.over })
 
+-- one piece of the same bytes; which of two pieces; no piece at all
+pub same_piece : {l l' : List ℕ} {a a' : ℕ} {s t : Text} → flat s ≡ flat t → Placed l a l' a' s → Placed l a l' a' t
+same_piece e w = record { written = same e w.written; left = rw e at w.left }
+
+pub first_piece : {l l' : List ℕ} {a a' : ℕ} {b : Bool} {s t : Text} → b ≡ true → Placed l a l' a' s → Placed l a l' a' (pick b s t)
+first_piece e w = rw e (record { written = pick_true refl w.written; left = w.left })
+
+pub second_piece : {l l' : List ℕ} {a a' : ℕ} {b : Bool} {s t : Text} → b ≡ false → Placed l a l' a' t → Placed l a l' a' (pick b s t)
+second_piece e w = rw e (record { written = pick_false refl w.written; left = w.left })
+
+pub no_piece : (l : List ℕ) (at : ℕ) → Placed l at l at (raw [])
+no_piece l at = record { written = nothing l at; left = λ h. refl }
+
 -- a text that depends on a test
 pub by_test : {l l' : List ℕ} {a a' : ℕ} {s : Text} (t : Bool → Text) (b c : Bool) → b ≡ c → flat s ≡ flat (t c) → Wrote l a l' a' s → Wrote l a l' a' (t b)
 by_test {l} {l'} {a} {a'} t b c e f w = subst (λ (b : Bool). Wrote l a l' a' (t b)) (sym e) (same f w)
+
+-- a text by cases, of a value that is known
+pub case : {A : Type 0} (t : A → Text) (x y : A) (l l' : List ℕ) (a a' : ℕ) → x ≡ y → Wrote l a l' a' (t y) → Wrote l a l' a' (t x)
+case t x y l l' a a' e w = rw e w
 
 -- a test of a number that is known
 pub eqb_at : (x m n : ℕ) (b : Bool) → x ≡ m → eqb m n ≡ b → eqb x n ≡ b
@@ -105,10 +122,14 @@ unfolding decimal_of
 enough zero n h = rw (lt-ltb n 10 h)
 enough (suc d) n h = ap (λ (l : List ℕ). cond (ltb n 10) ((48 + n) ∷ []) (l ++ ((48 + n % 10) ∷ []))) (enough d (n / 10) (omega arith))
 
+-- the last digit of a number below ten is the number
+pub one_digit : {l l' : List ℕ} {a a' : ℕ} (n : ℕ) → n < 10 → Wrote l a l' a' (digit (n % 10)) → Wrote l a l' a' (digit n)
+one_digit n h w = let e : n % 10 ≡ n = omega arith in rw e at w
+
 -- a number below ten is its digit, and another has its last digit behind those of its tenth part
-pub one_digit : {l l' : List ℕ} {a a' : ℕ} (n : ℕ) → n < 10 → Wrote l a l' a' (digit n) → Wrote l a l' a' (decimal n)
+pub only_digit : {l l' : List ℕ} {a a' : ℕ} (n : ℕ) → n < 10 → Wrote l a l' a' (digit n) → Wrote l a l' a' (decimal n)
 unfolding decimal_of
-one_digit n h w = pick_true (lt-ltb _ _ h) w
+only_digit n h w = pick_true (lt-ltb _ _ h) w
 
 pub last_digit : {l l' : List ℕ} {a a' : ℕ} (n : ℕ) → 10 ≤ n → n < 2 ^ 64 → Wrote l a l' a' (decimal (n / 10) ⊕ digit (n % 10)) → Wrote l a l' a' (decimal n)
 unfolding decimal_of

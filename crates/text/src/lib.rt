@@ -91,11 +91,11 @@ pub fn put_when(out: &mut [u8], at: usize, there: bool, s: &[u8]) -> usize
     at
 }
 
-fn put_digit(out: &mut [u8], at: usize, n: usize) -> usize
-    requires { n < 10 }
-    ensures { Placed out.old at out.new result (digit n) }
+// The last decimal digit of n.
+pub fn put_digit(out: &mut [u8], at: usize, n: u8) -> usize
+    ensures { Placed out.old at out.new result (digit (n % 10)) }
 {
-    put(out, at, &[b'0' + n as u8])
+    put(out, at, &[b'0' + n % 10])
 }
 
 // A number in decimal.
@@ -103,8 +103,8 @@ pub fn put_decimal(out: &mut [u8], at: usize, n: usize) -> usize
     ensures { Wrote out.old at out.new result (decimal n) }
 {
     if n < 10 {
-        return put_digit(out, at, n);
+        return put_digit(out, at, n as u8);
     }
     let a = put_decimal(out, at, n / 10);
-    put_digit(out, a, n % 10)
+    put_digit(out, a, (n % 10) as u8)
 }
