@@ -1,5 +1,5 @@
 -- A key of kind 1 as its bytes lie. An argument 0, which no op of such a key has, is the byte behind its combiner's three, so that four bytes are read at
--- once. Only contracts of inner functions cite it: those here that the C interface calls, and its own `read_key`.
+-- once. Only inner contracts cite it: those of the functions here that the C interface calls, and that of `read_key` there.
 use Rattle.std.specs.Prelude.{ℕ, zero, suc, Bool, false, ◌||◌, List, [], ◌∷◌, eqb, drop, get_or}
 use Rattle.combiners.specs.Combiners.{three_operands}
 use Rattle.wire.specs.Bodies.{specular_byte}

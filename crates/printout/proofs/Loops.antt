@@ -19,7 +19,8 @@ use Rattle.values.specs.declared.Refusal.{Refusal}
 use Rattle.records.specs.Applying.{all_held, text_held, apply_answer, held_after}
 use Rattle.records.specs.declared.Held.{Held}
 use Rattle.records.specs.declared.Applied.{Applied}
-use Rattle.printout.specs.Giving.{Gave, Passed, Refused}
+use Rattle.printout.specs.Giving.{Gave, Refused}
+use Rattle.printout.specs.Part.{Accepts}
 use Rattle.printout.specs.Program.{line_after, text_room}
 use Rattle.printout.specs.Steps.{Step, text_step, answered_step, ready, step_of}
 use Rattle.printout.specs.declared.Session.{Session}
@@ -92,9 +93,9 @@ module _ {F E : Type 0} {print : Mut F (Bor (List ℕ) × Unit {0}) (Result (Uni
   refused_as r k i = let p = err_from_is_err_and r i in rw (p.1, p.2) k
 
 -- a part that the closure accepts, of any calls before it
-pub passed : {F E : Type 0} {print : Mut F (Bor (List ℕ) × Unit {0}) (Result (Unit {0}) E)} {g h : F} {part : Bor (List ℕ)} (r : Result (Unit {0}) E) →
-    Called print g (part, tt) r h → OnOk r (Passed print g part.now h)
-passed (Ok tt) c = λ f bs rest k. gave_more c k
-passed (Err e) c = tt
+pub part_accepted : {F E : Type 0} {print : Mut F (Bor (List ℕ) × Unit {0}) (Result (Unit {0}) E)} {g h : F} {part : Bor (List ℕ)} (r : Result (Unit {0}) E) →
+    Called print g (part, tt) r h → OnOk r (Accepts print g part.now h)
+part_accepted (Ok tt) c = λ f bs rest k. gave_more c k
+part_accepted (Err e) c = tt
 
 pub ruleset turn = (line_fits, text_fits, line_taken, text_taken, less_left, begun_within, begun_left, gave_none)

@@ -25,16 +25,5 @@ pub record GaveAll {F E : Type 0} (print : Mut F (Bor (List ℕ) × Unit {0}) (R
 
 -- the part behind those that were accepted was refused with e
 pub record GaveUntil {F E : Type 0} (print : Mut F (Bor (List ℕ) × Unit {0}) (Result (Unit {0}) E)) (f : F) (bs : List ℕ) (e : E) : Type 0 where
-  pub last : F
-  pub part : List ℕ
-  pub more : List ℕ
-  pub gave : Gave print f bs last (part ++ more)
   pub after : F
-  pub refused : CalledAt print last part (Err e) after
-
--- What a part that is given does to the rest, and one that is refused: of inner contracts.
-abbrev pub Passed : {F E : Type 0} → Mut F (Bor (List ℕ) × Unit {0}) (Result (Unit {0}) E) → F → List ℕ → F → Type 0
-Passed {F} print g part h = (f : F) (bs rest : List ℕ) → Gave print f bs g (part ++ rest) → Gave print f bs h rest
-
-abbrev pub Stopped : {F E : Type 0} → Mut F (Bor (List ℕ) × Unit {0}) (Result (Unit {0}) E) → F → List ℕ → E → F → Type 0
-Stopped {F} print g part e h = (f : F) (bs rest : List ℕ) → Gave print f bs g (part ++ rest) → Refused print f bs e h
+  pub refused : Refused print f bs e after

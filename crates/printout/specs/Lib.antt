@@ -1,3 +1,4 @@
 pub mod Program
 pub mod Steps
 pub mod Giving
+pub mod Part

@@ -4,7 +4,8 @@
 pub mod lines;
 
 ghost use Rattle.std.specs.Prelude.{◌+◌, ◌<◌, ◌≤◌, ◌^◌, ◌≡◌, IfErr, None, OnOk, [], length};
-ghost use Rattle.printout.specs.Giving.{Gave, GaveAll, GaveUntil, Passed, Refused, Stopped};
+ghost use Rattle.printout.specs.Giving.{Gave, GaveAll, GaveUntil, Refused};
+ghost use Rattle.printout.specs.Part.{Accepts, Refuses};
 ghost use Rattle.printout.specs.Program.{line_after, records_output};
 ghost use Rattle.printout.specs.Steps.{begun, onwards, ready, record_step, step_of, stepped};
 
@@ -128,8 +129,8 @@ pub fn step(
 fn give<E: Drop, F: FnMut(&[u8]) -> Result<(), E>>(print: &mut F, part: &[u8]) -> Result<(), E>
     requires { F.IsAlwaysCallable print.old }
     ensures callable { F.IsAlwaysCallable print.new }
-    ensures accepted { OnOk result (Passed F.FnMut print.old part.now print.new) }
-    ensures refused { IfErr result (λ e. Stopped F.FnMut print.old part.now e print.new) }
+    ensures accepted { OnOk result (Accepts F.FnMut print.old part.now print.new) }
+    ensures refused { IfErr result (λ e. Refuses F.FnMut print.old part.now e print.new) }
 {
     if part.is_empty() {
         return Ok(());
